@@ -1,0 +1,4 @@
+pub mod Allowed
+pub mod Refusal
+pub mod Made
+pub mod Lengths
