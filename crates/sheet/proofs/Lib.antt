@@ -1,0 +1,6 @@
+mod Language
+mod Literal
+mod Names
+mod Numbers
+mod Parts
+mod Forms
