@@ -8,6 +8,9 @@ mod lengths;
 mod making;
 
 pub use fault::SettingsFault;
+pub use fault::SettingsFaultDebug;
+pub use fault::SettingsFaultEq;
+pub use fault::SettingsFaultPartialEq;
 
 // What both ends of a link agree on; each number is in its range.
 #[derive(Clone, Copy)]

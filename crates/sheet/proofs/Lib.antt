@@ -4,3 +4,5 @@ mod Names
 mod Numbers
 mod Parts
 mod Forms
+mod Misfits
+mod Fades

@@ -1,0 +1,55 @@
+// The figures of a quote.
+ghost use mathlib.Core.Path.{_≡_};
+ghost use Rattle.sheet.specs.Figures.{figuresOf, information, reach};
+use crate::form::CodeName;
+use settings::Settings;
+
+// What is quoted for a link, in octets.
+#[derive(Clone, Copy, Debug, PartialEq, Eq)]
+pub struct Quote {
+    // the information of one codeblock
+    pub frame: usize,
+    // the data of one block
+    pub block: usize,
+    // the longest fade, in data octets, that the link rides through
+    pub fade: usize,
+    // the line that may pass until a receiver that slipped is in step again
+    pub resync: usize,
+}
+
+impl CodeName {
+    // The information octets of a word.
+    pub fn information(&self) -> usize
+        ensures { λ r. ⌜ r ≡ information (now (self .entry)) ⌝ }
+    {
+        match *self {
+            CodeName::Rs16 => 223,
+            CodeName::Bare => 255,
+        }
+    }
+
+    // How many altered octets of a word the code mends.
+    pub fn reach(&self) -> usize
+        ensures { λ r. ⌜ r ≡ reach (now (self .entry)) ⌝ }
+    {
+        match *self {
+            CodeName::Rs16 => 16,
+            CodeName::Bare => 0,
+        }
+    }
+}
+
+// The quote for a link with this code and these settings.
+pub fn quote_for(code: CodeName, settings: &Settings) -> Quote
+    ensures { λ r. ⌜ r ≡ figuresOf code (now (settings .entry)) ⌝ }
+{
+    let depth = settings.depth();
+    let symbol = settings.symbol();
+    let mended = code.reach() * depth;
+    Quote {
+        frame: code.information() * depth,
+        block: settings.block_length(),
+        fade: mended / symbol * settings.rows() * symbol + mended % symbol,
+        resync: settings.resync_length(),
+    }
+}
