@@ -42,7 +42,7 @@ Whole = Then (Some-of CodeField) BehindCode
 -- a form's parts make its text
 parts-make : (f : LinkForm)
     → codeFieldText (f .code) ++ (fieldText (codes "depth") (f .depth) ++ (fieldText (codes "symbol") (f .symbol) ++ (fieldText (codes "rows") (f .rows)
-      ++ (fieldText (codes "sub") (f .«subframe_rows») ++ (fieldText (codes "misses") (f .«miss_limit») ++ (41 ∷ [])))))) ≡ text f
+    ++ (fieldText (codes "sub") (f .«subframe_rows») ++ (fieldText (codes "misses") (f .«miss_limit») ++ (41 ∷ [])))))) ≡ text f
 unfolding text
 parts-make f = simp append-assoc
 
@@ -78,15 +78,20 @@ whole-out t p =
       symbol = symbol .of-first .0;
       rows = rows .of-first .0;
       «subframe_rows» = sub .of-first .0;
-      «miss_limit» = misses .of-first .0
-    } in
-    (f, (record {
-      depth = depth .of-first .1 .0;
-      symbol = symbol .of-first .1 .0;
-      rows = rows .of-first .1 .0;
-      subframe-rows = sub .of-first .1 .0;
-      miss-limit = misses .of-first .1 .0
-    }, cuts (p .cut) (p .of-first .1) (cuts (depth .cut) (depth .of-first .1 .1) (cuts (symbol .cut) (symbol .of-first .1 .1) (cuts (rows .cut) (rows .of-first .1 .1) (cuts (sub .cut) (sub .of-first .1 .1) (cuts (misses .cut) (misses .of-first .1 .1) (misses .of-second)))))) ∙ parts-make f))
+      «miss_limit» = misses .of-first .0;
+    } in (
+      f,
+      (
+        record {
+          depth = depth .of-first .1 .0;
+          symbol = symbol .of-first .1 .0;
+          rows = rows .of-first .1 .0;
+          subframe-rows = sub .of-first .1 .0;
+          miss-limit = misses .of-first .1 .0;
+        },
+        cuts (p .cut) (p .of-first .1) (cuts (depth .cut) (depth .of-first .1 .1) (cuts (symbol .cut) (symbol .of-first .1 .1) (cuts (rows .cut) (rows .of-first .1 .1) (cuts (sub .cut) (sub .of-first .1 .1) (cuts (misses .cut) (misses .of-first .1 .1) (misses .of-second)))))) ∙ parts-make f,
+      ),
+    )
   where
     cuts : {t a b x y : List ℕ} → t ≡ a ++ b → a ≡ x → b ≡ y → t ≡ x ++ y
     cuts e f g = e ∙ ap₂ (λ u v. u ++ v) f g
@@ -101,7 +106,7 @@ whole-in t p =
       cut = p .1 .1 ∙ sym (parts-make f);
       of-first = (f .code, refl);
       of-second = numbered (codes "depth") BehindDepth (f .depth) (typed .depth) (numbered (codes "symbol") BehindSymbol (f .symbol) (typed .symbol) (numbered (codes "rows") BehindRows (f .rows) (typed .rows)
-        (numbered (codes "sub") BehindSub (f .«subframe_rows») (typed .subframe-rows) (numbered (codes "misses") BehindMisses (f .«miss_limit») (typed .miss-limit) refl))))
+          (numbered (codes "sub") BehindSub (f .«subframe_rows») (typed .subframe-rows) (numbered (codes "misses") BehindMisses (f .«miss_limit») (typed .miss-limit) refl))));
     }
   where
     numbered : (name : List ℕ) (K : Texts) (n : ℕ) → n < typedLimit → {k : List ℕ} → K k → Then (Numbered name) K (fieldText name n ++ k)
@@ -112,14 +117,19 @@ form-distinct a b y z p q e = whole-distinct a b y z (whole-in a p) (whole-in b 
   where
     sub-distinct : Distinct BehindSub
     sub-distinct = then-distinct (Numbered (codes "misses")) BehindMisses (field-distinct (codes "misses")) (just-distinct (41 ∷ []))
+
     rows-distinct : Distinct BehindRows
     rows-distinct = then-distinct (Numbered (codes "sub")) BehindSub (field-distinct (codes "sub")) sub-distinct
+
     symbol-distinct : Distinct BehindSymbol
     symbol-distinct = then-distinct (Numbered (codes "rows")) BehindRows (field-distinct (codes "rows")) rows-distinct
+
     depth-distinct : Distinct BehindDepth
     depth-distinct = then-distinct (Numbered (codes "symbol")) BehindSymbol (field-distinct (codes "symbol")) symbol-distinct
+
     behind-distinct : Distinct BehindCode
     behind-distinct = then-distinct (Numbered (codes "depth")) BehindDepth (field-distinct (codes "depth")) depth-distinct
+
     whole-distinct : Distinct Whole
     whole-distinct = then-distinct (Some-of CodeField) BehindCode code-distinct behind-distinct
 
@@ -150,13 +160,16 @@ pub form-read : (f : LinkForm) (line l1 l2 l3 l4 l5 l6 rest : List ℕ) → Take
     → Taken (NumberField (codes "depth")) (f .depth) l1 l2 → Taken (NumberField (codes "symbol")) (f .symbol) l2 l3 → Taken (NumberField (codes "rows")) (f .rows) l3 l4
     → Taken (NumberField (codes "sub")) (f .«subframe_rows») l4 l5 → Taken (NumberField (codes "misses")) (f .«miss_limit») l5 l6 → l6 ≡ 41 ∷ rest
     → Taken FormText f line rest
-form-read f line l1 l2 l3 l4 l5 l6 rest code depth symbol rows sub misses last =
-    (text f, (record { depth = depth .1 .0; symbol = symbol .1 .0; rows = rows .1 .0; subframe-rows = sub .1 .0; miss-limit = misses .1 .0 }, refl),
-      joins (code .2) (code .1) (joins (depth .2) (depth .1 .1) (joins (symbol .2) (symbol .1 .1) (joins (rows .2) (rows .1 .1) (joins (sub .2) (sub .1 .1) (joins (misses .2) (misses .1 .1) last)))))
+form-read f line l1 l2 l3 l4 l5 l6 rest code depth symbol rows sub misses last = (
+  text f,
+  (record { depth = depth .1 .0; symbol = symbol .1 .0; rows = rows .1 .0; subframe-rows = sub .1 .0; miss-limit = misses .1 .0 }, refl),
+  joins (code .2) (code .1) (joins (depth .2) (depth .1 .1) (joins (symbol .2) (symbol .1 .1) (joins (rows .2) (rows .1 .1) (joins (sub .2) (sub .1 .1) (joins (misses .2) (misses .1 .1) last)))))
       ∙ (regroup (codeFieldText (f .code)) (fieldText (codes "depth") (f .depth)) (fieldText (codes "symbol") (f .symbol)) (fieldText (codes "rows") (f .rows)) (fieldText (codes "sub") (f .«subframe_rows»)) (fieldText (codes "misses") (f .«miss_limit»))
-        ∙ ap (λ u. u ++ rest) (parts-make f)))
+      ∙ ap (λ u. u ++ rest) (parts-make f)),
+)
   where
     regroup : (a b c d e g : List ℕ) → a ++ (b ++ (c ++ (d ++ (e ++ (g ++ (41 ∷ rest)))))) ≡ (a ++ (b ++ (c ++ (d ++ (e ++ (g ++ (41 ∷ []))))))) ++ rest
     regroup a b c d e g = simp append-assoc
+
     joins : {l t w m r : List ℕ} → l ≡ t ++ m → t ≡ w → m ≡ r → l ≡ w ++ r
     joins e is g = e ∙ ap₂ (λ u v. u ++ v) is g

@@ -34,12 +34,12 @@ stops-alike L K into fit (x ∷ at) s = λ t more after k e. s t more after (int
 
 pub stopsAt-alike : (L K : Texts) → ((t : List ℕ) → L t → K t) → ((t : List ℕ) → K t → L t) → (line at : List ℕ) → StopsAt L line at → StopsAt K line at
 stopsAt-alike L K out into line at s = record {
-    fit = s .fit;
-    cut = s .cut;
-    rest = s .rest;
-    begins = out (s .fit ++ s .rest) (s .begins);
-    stops = stops-alike L K into (s .fit) at (s .stops)
-  }
+  fit = s .fit;
+  cut = s .cut;
+  rest = s .rest;
+  begins = out (s .fit ++ s .rest) (s .begins);
+  stops = stops-alike L K into (s .fit) at (s .stops);
+}
 
 -- Where the first part stops, the whole stops.
 pub stops-first : (L K : Texts) (fit at : List ℕ) → Stops L fit at → Stops (Then L K) fit at
@@ -50,12 +50,12 @@ stops-first L K fit (x ∷ at) s = λ t more after p e.
 
 pub stopsAt-first : (L K : Texts) (k : List ℕ) → K k → (line at : List ℕ) → StopsAt L line at → StopsAt (Then L K) line at
 stopsAt-first L K k some line at s = record {
-    fit = s .fit;
-    cut = s .cut;
-    rest = s .rest ++ k;
-    begins = record { first = s .fit ++ s .rest; second = k; cut = sym (append-assoc (s .fit) (s .rest) k); of-first = s .begins; of-second = some };
-    stops = stops-first L K (s .fit) at (s .stops)
-  }
+  fit = s .fit;
+  cut = s .cut;
+  rest = s .rest ++ k;
+  begins = record { first = s .fit ++ s .rest; second = k; cut = sym (append-assoc (s .fit) (s .rest) k); of-first = s .begins; of-second = some };
+  stops = stops-first L K (s .fit) at (s .stops);
+}
 
 -- Where the first part is read and the second stops, the whole stops.
 pub stops-second : (L K : Texts) → Distinct L → (a fit at : List ℕ) → L a → Stops K fit at → Stops (Then L K) (a ++ fit) at
@@ -70,12 +70,12 @@ stops-second L K d a fit (x ∷ at) l s = λ t more after p e.
 
 pub stopsAt-second : (L K : Texts) → Distinct L → (line a rest at : List ℕ) → line ≡ a ++ rest → L a → StopsAt K rest at → StopsAt (Then L K) line at
 stopsAt-second L K d line a rest at e l s = record {
-    fit = a ++ s .fit;
-    cut = e ∙ (ap (λ u. a ++ u) (s .cut) ∙ sym (append-assoc a (s .fit) at));
-    rest = s .rest;
-    begins = record { first = a; second = s .fit ++ s .rest; cut = append-assoc a (s .fit) (s .rest); of-first = l; of-second = s .begins };
-    stops = stops-second L K d a (s .fit) at l (s .stops)
-  }
+  fit = a ++ s .fit;
+  cut = e ∙ (ap (λ u. a ++ u) (s .cut) ∙ sym (append-assoc a (s .fit) at));
+  rest = s .rest;
+  begins = record { first = a; second = s .fit ++ s .rest; cut = append-assoc a (s .fit) (s .rest); of-first = l; of-second = s .begins };
+  stops = stops-second L K d a (s .fit) at l (s .stops);
+}
 
 -- a text of K behind a fixed beginning
 abbrev pub Behind : List ℕ → Texts → Texts

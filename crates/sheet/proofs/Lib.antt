@@ -6,3 +6,4 @@ mod Parts
 mod Forms
 mod Misfits
 mod Fades
+mod Lines

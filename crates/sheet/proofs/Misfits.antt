@@ -25,11 +25,11 @@ here-fits-none fit (x ∷ at) none h s =
 
 before-fits : (fit at rest : List ℕ) (f : LinkForm) → Typed f → text f ≡ fit ++ rest → (i : ℕ) → i < length fit → FitsSome (take (i + 1) (fit ++ at))
 before-fits fit at rest f typed e i h = record {
-    form = f;
-    typed = typed;
-    rest = drop (i + 1) fit ++ rest;
-    begins = e ∙ (ap (λ u. u ++ rest) (sym (take-append-drop (i + 1) fit)) ∙ (append-assoc (take (i + 1) fit) (drop (i + 1) fit) rest ∙ ap (λ u. u ++ (drop (i + 1) fit ++ rest)) (sym (take-append-le (i + 1) fit at (omega arith)))))
-  }
+  form = f;
+  typed = typed;
+  rest = drop (i + 1) fit ++ rest;
+  begins = e ∙ (ap (λ u. u ++ rest) (sym (take-append-drop (i + 1) fit)) ∙ (append-assoc (take (i + 1) fit) (drop (i + 1) fit) rest ∙ ap (λ u. u ++ (drop (i + 1) fit ++ rest)) (sym (take-append-le (i + 1) fit at (omega arith)))));
+}
 
 -- the line is `fit` and then `at`; some form's text begins with `fit`, none goes on as the line does, and none is the line
 stops-fitting : (line fit at rest : List ℕ) (f : LinkForm) → line ≡ fit ++ at → Typed f → text f ≡ fit ++ rest → NoneAhead fit at → ((g : LinkForm) → WrittenFor line g → ⊥)
@@ -50,6 +50,7 @@ stopped-misfit line at s =
     ahead : (u : List ℕ) → Stops (Some-of FormText) (s .fit) u → NoneAhead (s .fit) u
     ahead [] st = tt
     ahead (x ∷ u) st = λ g typed z e. st (text g) [] z (g, (typed, refl)) (append-nil (text g) ∙ e)
+
     whole : (u : List ℕ) → line ≡ s .fit ++ u → Stops (Some-of FormText) (s .fit) u → (g : LinkForm) → WrittenFor line g → ⊥
     whole [] e st g w = st (text g) [] (g, (w .typed, refl)) (append-nil (text g) ∙ (sym (w .same) ∙ (e ∙ append-nil (s .fit))))
     whole (x ∷ u) e st g w = st (text g) [] u (g, (w .typed, refl)) (append-nil (text g) ∙ (sym (w .same) ∙ e))
@@ -65,6 +66,7 @@ longer-misfit line rest f p more =
     longer g typed z some e =
         let same : text g ≡ text f = form-distinct (text g) (text f) [] z (g, (typed, refl)) (f, (p .1 .0, refl)) (append-nil (text g) ∙ e) in
         some (append-cancel-left (text f) z [] (sym e ∙ (same ∙ sym (append-nil (text f)))))
+
     ahead : (u : List ℕ) → NoneAhead (text f) u
     ahead [] = tt
     ahead (x ∷ u) = λ g typed z e. longer g typed (x ∷ z) (λ n. let c : _≡_ {A = ℕ} 0 1 = cc in omega arith) e

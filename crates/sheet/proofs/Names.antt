@@ -23,28 +23,28 @@ stops-both fit (x ∷ at) r b = λ t more after is e. elim (is .0) as (λ v. t �
 -- an empty line ends before either name
 pub names-end : (line : List ℕ) → line ≡ [] → StopsAt (Some-of CodeText) line line
 names-end [] e = record {
-    fit = [];
-    cut = refl;
-    rest = codes "bare";
-    begins = (Bare, refl);
-    stops = λ t more is f. elim (is .0) as (λ v. t ≡ codeWord v → ⊥) [ Rs16 ↦ λ q. let z : _≡_ {A = ℕ} 0 1 = cc in omega arith | Bare ↦ λ q. let z : _≡_ {A = ℕ} 0 1 = cc in omega arith ] (is .1)
-  }
+  fit = [];
+  cut = refl;
+  rest = codes "bare";
+  begins = (Bare, refl);
+  stops = λ t more is f. elim (is .0) as (λ v. t ≡ codeWord v → ⊥) [ Rs16 ↦ λ q. let z : _≡_ {A = ℕ} 0 1 = cc in omega arith | Bare ↦ λ q. let z : _≡_ {A = ℕ} 0 1 = cc in omega arith ] (is .1);
+}
 names-end (x ∷ line) e = let z : _≡_ {A = ℕ} 0 1 = cc in absurd (omega arith)
 
 pub bare-stops : (line at : List ℕ) (x : ℕ) (rest : List ℕ) → line ≡ x ∷ rest → (x ≡ 114 → ⊥) → StopsAt (Just (codes "bare")) line at → StopsAt (Some-of CodeText) line at
 bare-stops line at x rest e n s = record {
-    fit = s .fit;
-    cut = s .cut;
-    rest = s .rest;
-    begins = (Bare, s .begins);
-    stops = stops-both (s .fit) at (stops-at-first x 114 (codes "s16") rest (s .fit) at (sym e ∙ s .cut) n) (s .stops)
-  }
+  fit = s .fit;
+  cut = s .cut;
+  rest = s .rest;
+  begins = (Bare, s .begins);
+  stops = stops-both (s .fit) at (stops-at-first x 114 (codes "s16") rest (s .fit) at (sym e ∙ s .cut) n) (s .stops);
+}
 
 pub rs16-stops : (line at : List ℕ) (x : ℕ) (rest : List ℕ) → line ≡ x ∷ rest → (x ≡ 98 → ⊥) → StopsAt (Just (codes "rs16")) line at → StopsAt (Some-of CodeText) line at
 rs16-stops line at x rest e n s = record {
-    fit = s .fit;
-    cut = s .cut;
-    rest = s .rest;
-    begins = (Rs16, s .begins);
-    stops = stops-both (s .fit) at (s .stops) (stops-at-first x 98 (codes "are") rest (s .fit) at (sym e ∙ s .cut) n)
-  }
+  fit = s .fit;
+  cut = s .cut;
+  rest = s .rest;
+  begins = (Rs16, s .begins);
+  stops = stops-both (s .fit) at (s .stops) (stops-at-first x 98 (codes "are") rest (s .fit) at (sym e ∙ s .cut) n);
+}

@@ -85,12 +85,12 @@ blocked-stops fit (x ∷ rest) d b = λ t more after is e.
 -- some digits are read, and nothing fits behind them
 number-stops : (n : ℕ) (whole rest : List ℕ) → n < typedLimit → whole ≡ decimal n ++ rest → Blocked (decimal n) rest → StopsAt (Some-of ClosedNumber) whole rest
 number-stops n whole rest h e b = record {
-    fit = decimal n;
-    cut = e;
-    rest = 41 ∷ [];
-    begins = (n, (h, refl));
-    stops = blocked-stops (decimal n) rest (digits-of n (omega arith)) b
-  }
+  fit = decimal n;
+  cut = e;
+  rest = 41 ∷ [];
+  begins = (n, (h, refl));
+  stops = blocked-stops (decimal n) rest (digits-of n (omega arith)) b;
+}
 
 pub number-ends : (n : ℕ) (whole rest : List ℕ) → n < typedLimit → whole ≡ decimal n ++ rest → rest ≡ [] → StopsAt (Some-of ClosedNumber) whole rest
 number-ends n whole rest h e none =
@@ -150,12 +150,12 @@ number-unclosed n whole rest at h e only s =
 -- nothing is read yet: the line is empty, or its first octet is no digit
 number-none : (line : List ℕ) → Blocked [] line → StopsAt (Some-of ClosedNumber) line line
 number-none line b = record {
-    fit = [];
-    cut = refl;
-    rest = decimal 0 ++ (41 ∷ []);
-    begins = (0, (omega arith, refl));
-    stops = blocked-stops [] line tt b
-  }
+  fit = [];
+  cut = refl;
+  rest = decimal 0 ++ (41 ∷ []);
+  begins = (0, (omega arith, refl));
+  stops = blocked-stops [] line tt b;
+}
 
 pub number-missing : (line : List ℕ) → line ≡ [] → StopsAt (Some-of ClosedNumber) line line
 number-missing line e = let P : List ℕ → Type 0 = Blocked [] in number-none line (subst P (sym e) tt)
@@ -179,7 +179,7 @@ closed-here n whole rest after h e is =
 pub closed-distinct : Distinct (Some-of ClosedNumber)
 closed-distinct a b y z p q e =
     let joined : decimal (p .0) ++ (41 ∷ y) ≡ decimal (q .0) ++ (41 ∷ z) =
-      sym (append-assoc (decimal (p .0)) (41 ∷ []) y) ∙ (sym (ap (λ u. u ++ y) (p .1 .1)) ∙ (e ∙ (ap (λ u. u ++ z) (q .1 .1) ∙ append-assoc (decimal (q .0)) (41 ∷ []) z))) in
+    sym (append-assoc (decimal (p .0)) (41 ∷ []) y) ∙ (sym (ap (λ u. u ++ y) (p .1 .1)) ∙ (e ∙ (ap (λ u. u ++ z) (q .1 .1) ∙ append-assoc (decimal (q .0)) (41 ∷ []) z))) in
     let few-p = p .1 .0 in
     let few-q = q .1 .0 in
     let same : decimal (p .0) ≡ decimal (q .0) = same-digits (decimal (p .0)) (decimal (q .0)) y z (digits-of (p .0) (omega arith)) (digits-of (q .0) (omega arith)) joined in

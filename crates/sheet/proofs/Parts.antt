@@ -64,12 +64,13 @@ field-reads name line rest (Err stop) e s =
 
 pub names-distinct : Distinct (Some-of CodeText)
 names-distinct a b y z p q e = elim (p .0) as (λ v. a ≡ codeWord v → a ≡ b) [
-    | Rs16 ↦ λ f. elim (q .0) as (λ w. b ≡ codeWord w → a ≡ b) [ Rs16 ↦ λ g. f ∙ sym g | Bare ↦ λ g. apart f g ] (q .1)
-    | Bare ↦ λ f. elim (q .0) as (λ w. b ≡ codeWord w → a ≡ b) [ Rs16 ↦ λ g. apart′ f g | Bare ↦ λ g. f ∙ sym g ] (q .1)
-  ] (p .1)
+  | Rs16 ↦ λ f. elim (q .0) as (λ w. b ≡ codeWord w → a ≡ b) [ Rs16 ↦ λ g. f ∙ sym g | Bare ↦ λ g. apart f g ] (q .1)
+  | Bare ↦ λ f. elim (q .0) as (λ w. b ≡ codeWord w → a ≡ b) [ Rs16 ↦ λ g. apart′ f g | Bare ↦ λ g. f ∙ sym g ] (q .1)
+] (p .1)
   where
     apart : a ≡ codes "rs16" → b ≡ codes "bare" → a ≡ b
     apart f g = let clash : _≡_ {A = ℕ} 114 98 = cc in absurd (omega arith)
+
     apart′ : a ≡ codes "bare" → b ≡ codes "rs16" → a ≡ b
     apart′ f g = let clash : _≡_ {A = ℕ} 98 114 = cc in absurd (omega arith)
 

@@ -22,8 +22,8 @@ fadeFor s t = t * s .depth / s .symbol * s .rows * s .symbol + t * s .depth % s 
 
 abbrev pub figuresOf : CodeName → Settings → Quote
 figuresOf code s = record {
-    frame = information code * s .depth;
-    block = blockLength s;
-    fade = fadeFor s (reach code);
-    resync = resyncLength s
-  }
+  frame = information code * s .depth;
+  block = blockLength s;
+  fade = fadeFor s (reach code);
+  resync = resyncLength s;
+}

@@ -27,13 +27,13 @@ codeWord Bare = codes "bare"
 -- the octets of a form
 unfoldable pub text : LinkForm → List ℕ
 text f = joined (
-      codes "(link (code " ∷ codeWord (f .code)
-      ∷ codes ") (depth " ∷ decimal (f .depth)
-      ∷ codes ") (symbol " ∷ decimal (f .symbol)
-      ∷ codes ") (rows " ∷ decimal (f .rows)
-      ∷ codes ") (sub " ∷ decimal (f .«subframe_rows»)
-      ∷ codes ") (misses " ∷ decimal (f .«miss_limit»)
-      ∷ codes "))" ∷ []
+    codes "(link (code " ∷ codeWord (f .code)
+    ∷ codes ") (depth " ∷ decimal (f .depth)
+    ∷ codes ") (symbol " ∷ decimal (f .symbol)
+    ∷ codes ") (rows " ∷ decimal (f .rows)
+    ∷ codes ") (sub " ∷ decimal (f .«subframe_rows»)
+    ∷ codes ") (misses " ∷ decimal (f .«miss_limit»)
+    ∷ codes "))" ∷ []
     )
 
 -- The line is exactly the form's text.

@@ -2,8 +2,8 @@
 ghost use mathlib.Core.Path.{_≡_};
 ghost use Rattle.sheet.specs.Line.{FormRead, LineQuoted, number};
 ghost use Rattle.sheet.specs.declared.line.LineFault.the-variants.{Unfit, Refused};
-use crate::figures::quote_for;
 use crate::figures::Quote;
+use crate::figures::quote_for;
 use crate::form::LinkForm;
 use crate::reader::form;
 use settings::Settings;
@@ -62,10 +62,14 @@ pub fn read_form(line: &[u8]) -> Result<LinkForm, Misfit>
             if rest.len() == 0 {
                 Ok(found)
             } else {
-                Err(Misfit { place: line.len() - rest.len() })
+                Err(Misfit {
+                    place: line.len() - rest.len(),
+                })
             }
         }
-        Err(stop) => Err(Misfit { place: line.len() - stop.at.len() }),
+        Err(stop) => Err(Misfit {
+            place: line.len() - stop.at.len(),
+        }),
     }
 }
 
@@ -74,6 +78,12 @@ pub fn quote_line(line: &[u8]) -> Result<Quote, LineFault>
     ensures { λ r. ⌜ LineQuoted (now (line .entry)) r ⌝ }
 {
     let form = read_form(line)?;
-    let settings = Settings::new(form.depth, form.rows, form.symbol, form.subframe_rows, form.miss_limit)?;
+    let settings = Settings::new(
+        form.depth,
+        form.rows,
+        form.symbol,
+        form.subframe_rows,
+        form.miss_limit,
+    )?;
     Ok(quote_for(form.code, &settings))
 }

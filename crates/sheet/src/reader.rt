@@ -148,5 +148,15 @@ pub(crate) fn form<'a>(line: &'a [u8]) -> Result<(LinkForm, &'a [u8]), Stop<'a>>
     let (subframe_rows, behind_sub) = number_field(behind_rows, b"sub")?;
     let (miss_limit, behind_misses) = number_field(behind_sub, b"misses")?;
     let rest = sign(behind_misses, Sign::Close)?;
-    Ok((LinkForm { code, depth, symbol, rows, subframe_rows, miss_limit }, rest))
+    Ok((
+        LinkForm {
+            code,
+            depth,
+            symbol,
+            rows,
+            subframe_rows,
+            miss_limit,
+        },
+        rest,
+    ))
 }

@@ -20,14 +20,14 @@ returns-in-Break-behind-code c =
     let stop = c .in-Break-behind-code .field-0 .0 in
     rw (p .1, p .2)
     (code-begins (c .args .line .now) stop
-      (passed-behind (openingOf (codes "link")) (openingOf (codes "code")) (c .args .line .now) (c .in-Continue-behind-link .behind-link .now) (Err stop) (c .in-Continue-behind-link .ensures tt) (c .in-Break-behind-code .ensures tt)))
+    (passed-behind (openingOf (codes "link")) (openingOf (codes "code")) (c .args .line .now) (c .in-Continue-behind-link .behind-link .now) (Err stop) (c .in-Continue-behind-link .ensures tt) (c .in-Break-behind-code .ensures tt)))
 
 pub returns-in-Break-code : need.returns-in-Break-code
 returns-in-Break-code c =
     let p = err-from-errBy (c .from-residual-in-Break-code .result) (c .from-residual-in-Break-code .ensures .1) in
     rw (p .1, p .2)
     (code-name-stops (c .args .line .now) (c .in-Continue-behind-code .behind-code .now) (c .in-Break-code .field-0 .0 .at .now)
-      (c .in-Continue-behind-link .ensures tt ∙ ap (λ u. openingOf (codes "link") ++ u) (c .in-Continue-behind-code .ensures tt)) (c .in-Break-code .ensures tt))
+    (c .in-Continue-behind-link .ensures tt ∙ ap (λ u. openingOf (codes "link") ++ u) (c .in-Continue-behind-code .ensures tt)) (c .in-Break-code .ensures tt))
 
 pub returns-in-Break-rest : need.returns-in-Break-rest
 returns-in-Break-rest c =
@@ -35,7 +35,7 @@ returns-in-Break-rest c =
     let name = c .in-Continue-code .ensures tt in
     rw (p .1, p .2)
     (code-bracket-stops (c .args .line .now) (c .in-Continue-behind-code .behind-code .now) (c .in-Continue-code .behind-name .now) (c .in-Break-rest .field-0 .0 .at .now) (name .0) (c .in-Continue-code .code)
-      (c .in-Continue-behind-link .ensures tt ∙ ap (λ u. openingOf (codes "link") ++ u) (c .in-Continue-behind-code .ensures tt)) (name .1) (name .2) (c .in-Break-rest .ensures tt))
+    (c .in-Continue-behind-link .ensures tt ∙ ap (λ u. openingOf (codes "link") ++ u) (c .in-Continue-behind-code .ensures tt)) (name .1) (name .2) (c .in-Break-rest .ensures tt))
 
 pub returns : need.returns
 returns c =

@@ -40,7 +40,7 @@ returns-in-Break-rest c =
     let few = few-digits (c .loop .value) (c .loop .counter) (omega arith) (c .loop .inv .2) in
     rw (p .1, p .2)
     (number-unclosed (c .loop .value) (decimal (c .args .leading) ++ c .args .line .now) (c .loop .rest .now) (c .in-Break-rest .field-0 .0 .at .now) few (c .loop .inv .0)
-      (five-digits-block (c .loop .value) few (omega arith)) (c .in-Break-rest .ensures tt))
+    (five-digits-block (c .loop .value) few (omega arith)) (c .in-Break-rest .ensures tt))
 
 pub returns : need.returns
 returns c =

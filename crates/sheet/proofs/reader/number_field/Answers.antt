@@ -19,7 +19,7 @@ returns-in-Break-behind-name c =
     let stop = c .in-Break-behind-name .field-0 .0 in
     rw (p .1, p .2)
     (field-begins (c .args .name .now) (c .args .line .now) stop
-      (passed-behind (32 ∷ []) (openingOf (c .args .name .now)) (c .args .line .now) (c .in-Continue-behind-space .behind-space .now) (Err stop) (c .in-Continue-behind-space .ensures tt) (c .in-Break-behind-name .ensures tt)))
+    (passed-behind (32 ∷ []) (openingOf (c .args .name .now)) (c .args .line .now) (c .in-Continue-behind-space .behind-space .now) (Err stop) (c .in-Continue-behind-space .ensures tt) (c .in-Break-behind-name .ensures tt)))
 
 pub returns : need.returns
 returns c =

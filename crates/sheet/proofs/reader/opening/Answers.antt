@@ -15,7 +15,7 @@ returns-in-Break-behind-name c =
     let stop = c .in-Break-behind-name .field-0 .0 in
     rw (p .1, p .2)
     (passed-behind (40 ∷ []) (c .args .name .now ++ (32 ∷ [])) (c .args .line .now) (c .in-Continue-behind-bracket .behind-bracket .now) (Err stop) (c .in-Continue-behind-bracket .ensures tt)
-      (literal-begins (c .args .name .now) (32 ∷ []) (c .in-Continue-behind-bracket .behind-bracket .now) (stop .at .now) (c .in-Break-behind-name .ensures tt)))
+    (literal-begins (c .args .name .now) (32 ∷ []) (c .in-Continue-behind-bracket .behind-bracket .now) (stop .at .now) (c .in-Break-behind-name .ensures tt)))
 
 pub returns : need.returns
 returns c =

@@ -1,0 +1,30 @@
+use mathlib.Core.Path.{_≡_, sym, ap, _∙_}
+use mathlib.Core.List.{[], _∷_, _++_}
+use native.Mathlib.Omega.{arith}
+use lib.ListN.{take}
+use lib.Seq.{take-all}
+use Rattle.std.specs.Of.String.{string-bytes}
+use Rattle.sheet.specs.Answers.{sheetLimit, lineFeed}
+use Rattle.sheet.proofs.Lines.{completes-none, completes-more, completes-all}
+use Rattle.sheet.proofs.answers.answer_sheet.Needs as need
+use Rattle.sheet.proofs.answers.answer_sheet.Needs.{then-sheet-gt65536, else-sheet-gt65536}
+
+pub loop-rest-holds : need.loop-rest-holds
+loop-rest-holds c =
+    let whole : c .if-sheet-gt65536 .rest .now ≡ take sheetLimit (c .args .sheet .now) =
+    elim (c .if-sheet-gt65536 .came) [
+      | then-sheet-gt65536 w ↦ ap (λ r. r .now) (w .rest-is)
+      | else-sheet-gt65536 w ↦ ap (λ r. r .now) (w .rest-is) ∙ sym (take-all sheetLimit (c .args .sheet .now) (w .if-sheet-gt65536 .left))
+    ] in
+    completes-none (take sheetLimit (c .args .sheet .now)) (c .if-sheet-gt65536 .rest .now) (string-bytes (c .new-answers .result)) whole (c .new-answers .ensures .bytes)
+
+pub loop-rest-again : need.loop-rest-again
+unfolding lib.Utf8.encode
+loop-rest-again c =
+    let pushed : string-bytes (c .push .last .self) ≡ string-bytes (c .loop-rest .answers) ++ string-bytes (c .in-Continue-answer .answer) ++ (lineFeed ∷ []) =
+    c .in-Continue-push .ensures tt .bytes ∙ ap (λ u. u ++ (lineFeed ∷ [])) (c .in-Continue-push-str .ensures tt .bytes ∙ ap (λ u. string-bytes (c .loop-rest .answers) ++ u) (c .as-str .ensures .value)) in
+    completes-more (take sheetLimit (c .args .sheet .now)) (c .loop-rest .rest .now) (c .first-line .result .0 .now) (c .first-line .result .1 .now) (string-bytes (c .loop-rest .answers))
+    (string-bytes (c .in-Continue-answer .answer)) (string-bytes (c .push .last .self)) (c .loop-rest .inv) (omega arith) (c .first-line .ensures) (c .in-Continue-answer .ensures tt) pushed
+
+pub returns : need.returns
+returns c = completes-all (take sheetLimit (c .args .sheet .now)) (c .loop-rest .rest .now) (string-bytes (c .loop-rest .answers)) (c .loop-rest .inv) (omega arith)
