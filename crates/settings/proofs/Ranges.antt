@@ -4,6 +4,8 @@ use mathlib.Core.Bool.{true}
 use Prim.Native.Nat.{ℕ, zero, suc, _+_, _*_, _/_, _%_, _≤_, _<_}
 use native.Mathlib.Nat.{div-add-mod'}
 use native.Mathlib.Omega.{arith}
+use mir.Syntax.{w64}
+use mir.Val.{Fits}
 use Rattle.std.proofs.shelf.Bits.{mul-le}
 use Rattle.std.proofs.shelf.Ways.{tells}
 use Rattle.settings.specs.Allowed.{depthAllowed, rowsAllowed, symbolAllowed, subframeRowsAllowed, missLimitAllowed}
@@ -99,3 +101,7 @@ period-high s = omega (arith, subframe-data-high s)
 
 pub resync-length-high : (s : Settings) → resyncLength s ≤ 2130740985
 resync-length-high s = mul-le (s .«miss_limit») (period s) 255 8355847 (ranges s .miss-limit-high) (period-high s)
+
+-- a number of rows or misses times a length fits a machine word
+pub product-fits : (a b : ℕ) → a ≤ 4096 → b ≤ 8355847 → Fits w64 (a * b)
+product-fits a b ha hb = omega (arith, mul-le a b 4096 8355847 ha hb)

@@ -15,7 +15,7 @@ impl Settings {
     pub fn block_length(&self) -> usize
         ensures { λ r. ⌜ r ≡ blockLength (now (self .entry)) ⌝ }
     {
-        255 * self.depth * self.rows
+        self.row_length() * self.rows
     }
 
     // The subframes of a block.
@@ -29,7 +29,7 @@ impl Settings {
     pub fn subframe_data(&self) -> usize
         ensures { λ r. ⌜ r ≡ subframeData (now (self .entry)) ⌝ }
     {
-        255 * self.depth * self.subframe_rows
+        self.row_length() * self.subframe_rows
     }
 
     // The octets of a subframe on the line, its marker counted.

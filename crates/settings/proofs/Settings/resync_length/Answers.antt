@@ -1,8 +1,7 @@
 use native.Mathlib.Omega.{arith}
-use mathlib.Core.Path.{ap}
-use Prim.Native.Nat.{_*_}
-use Rattle.settings.proofs.Ranges.{resync-length-high}
+use Rattle.settings.proofs.Ranges.{ranges, period-high, product-fits}
 use Rattle.settings.proofs.Settings.resync_length.Needs as need
 
 pub mul-result : need.mul-result
-mul-result c = omega (arith, resync-length-high (c .args .self .now), ap (λ p. c .args .self .now .«miss_limit» * p) (c .period .ensures))
+mul-result c =
+    let r = ranges (c .args .self .now) in product-fits _ _ (omega arith) (omega (arith, period-high (c .args .self .now)))
