@@ -2,6 +2,7 @@ pub mod Turns
 pub mod Interleaver
 pub mod Laws
 pub mod Words
+pub mod Stretches
 pub mod Reach
 pub mod Digits
 pub mod Bounds
