@@ -40,11 +40,11 @@ pub record Cut (I N k : ℕ) : Type 0 where
   pub whole : 255 * I % k ≡ 0
 
 module _ (I N k d : ℕ) (cut : Cut I N k) where
-  columns : 255 * I / k * k ≡ 255 * I
-  columns = omega (arith, div-add-mod' (255 * I) k, cut .whole)
+  pub columns-fill : 255 * I / k * k ≡ 255 * I
+  columns-fill = omega (arith, div-add-mod' (255 * I) k, cut .whole)
 
   pub columns-pos : 0 < 255 * I / k
-  columns-pos = elim (cases-lt 0 (255 * I / k)) [ inl h ↦ h | inr z ↦ absurd (let e : 255 * I / k ≡ 0 = omega arith in let f : 0 * k ≡ 255 * I = rw e at columns in omega (arith, cut .deep)) ]
+  columns-pos = elim (cases-lt 0 (255 * I / k)) [ inl h ↦ h | inr z ↦ absurd (let e : 255 * I / k ≡ 0 = omega arith in let f : 0 * k ≡ 255 * I = rw e at columns-fill in omega (arith, cut .deep)) ]
 
   -- a turn, in which each row sends one symbol
   turn-pos : 0 < N * k
@@ -60,7 +60,7 @@ module _ (I N k d : ℕ) (cut : Cut I N k) where
   octet-lt : (p : ℕ) → octetOf p < 255 * I
   octet-lt p =
       let c = mul-add-lt ((p / k / N + p / k % N * d) % (255 * I / k)) k (p % k) (255 * I / k) (mod-below _ _ columns-pos) (mod-below p k (cut .symbol)) in
-      omega (arith, columns, mul-comm k (255 * I / k))
+      omega (arith, columns-fill, mul-comm k (255 * I / k))
 
   source-is : (p : ℕ) → steppedSource I N k d p ≡ p / k % N * (255 * I) + octetOf p
   unfolding steppedSource
@@ -77,7 +77,7 @@ module _ (I N k d : ℕ) (cut : Cut I N k) where
   source-word p =
       let a = p / k / N + p / k % N * d in
       let cols : a / (255 * I / k) * (255 * I / k) + a % (255 * I / k) ≡ a = div-add-mod' a (255 * I / k) in
-      let round : p / k / N * k + p % k + p / k % N * d * k ≡ octetOf p + a / (255 * I / k) * 255 * I = round-row (p / k / N) (p / k % N * d) (p % k) k (255 * I / k) I (a / (255 * I / k)) (a % (255 * I / k)) cols columns in
+      let round : p / k / N * k + p % k + p / k % N * d * k ≡ octetOf p + a / (255 * I / k) * 255 * I = round-row (p / k / N) (p / k % N * d) (p % k) k (255 * I / k) I (a / (255 * I / k)) (a % (255 * I / k)) cols columns-fill in
       rw (source-octet p, round) (sym (add-mul-mod-self-right (octetOf p) (a / (255 * I / k) * 255) I))
 
   source-lt : (p : ℕ) → steppedSource I N k d p < 255 * I * N
@@ -90,7 +90,7 @@ module _ (I N k d : ℕ) (cut : Cut I N k) where
   pub round-lt : (p : ℕ) → p < 255 * I * N → p / k / N < 255 * I / k
   round-lt p h =
       div-below (p / k) N (255 * I / k) (cut .some)
-      (div-below p k (255 * I / k * N) (cut .symbol) (let e : 255 * I / k * N * k ≡ 255 * I * N = omega (arith, ap (λ n. n * N) columns) in rw e h))
+      (div-below p k (255 * I / k * N) (cut .symbol) (let e : 255 * I / k * N * k ≡ 255 * I * N = omega (arith, ap (λ n. n * N) columns-fill) in rw e h))
 
   back-source : (p : ℕ) → p < 255 * I * N → back (steppedSource I N k d p) ≡ p
   back-source p h =
@@ -112,11 +112,11 @@ module _ (I N k d : ℕ) (cut : Cut I N k) where
       let u-lt : u < R = mod-below q R R-pos in
       let e-lt : e < k = mod-below u k (cut .symbol) in
       let c-lt : c < C = mod-below _ C columns-pos in
-      let u-col : u / k < C = div-below u k C (cut .symbol) (rw columns u-lt) in
+      let u-col : u / k < C = div-below u k C (cut .symbol) (rw columns-fill u-lt) in
       let there : (c + row * d) % C ≡ u / k = turn-on (u / k) (row * d) C columns-pos ∙ mod-eq-of-lt u-col in
       let sym-lt : c * N + row < N * C = mul-add-lt c N row C c-lt row-lt in
       let in-block : (c * N + row) * k + e < k * (N * C) = mul-add-lt (c * N + row) k e (N * C) sym-lt e-lt in (
-        omega (arith, in-block, ap (λ n. N * n) columns),
+        omega (arith, in-block, ap (λ n. N * n) columns-fill),
         rw (div-mul-add (c * N + row) k e e-lt, mod-mul-add (c * N + row) k e e-lt, div-mul-add c N row row-lt, mod-mul-add c N row row-lt, there)
             (omega (arith, div-add-mod' q R, div-add-mod' u k)),
       )

@@ -4,5 +4,6 @@ pub mod Randomizer
 pub mod Refusal
 pub mod Answers
 pub mod Bulk
+pub mod Walk
 pub mod FadeKept
 pub mod Figures

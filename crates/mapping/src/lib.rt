@@ -9,6 +9,7 @@ mod sequence;
 mod stepped;
 mod symbols;
 mod theorems;
+mod walk;
 
 pub use block::BlockIsMapping;
 pub use block::BlockMapping;
