@@ -80,7 +80,7 @@ module _ (I N k d : ℕ) (cut : Cut I N k) where
       let round : p / k / N * k + p % k + p / k % N * d * k ≡ octetOf p + a / (255 * I / k) * 255 * I = round-row (p / k / N) (p / k % N * d) (p % k) k (255 * I / k) I (a / (255 * I / k)) (a % (255 * I / k)) cols columns-fill in
       rw (source-octet p, round) (sym (add-mul-mod-self-right (octetOf p) (a / (255 * I / k) * 255) I))
 
-  source-lt : (p : ℕ) → steppedSource I N k d p < 255 * I * N
+  pub source-lt : (p : ℕ) → steppedSource I N k d p < 255 * I * N
   source-lt p = rw (source-is p) (mul-add-lt (p / k % N) (255 * I) (octetOf p) N (mod-below (p / k) N (cut .some)) (octet-lt p))
 
   -- the place that memory place q goes to

@@ -2,7 +2,7 @@ pub mod Turns
 pub mod Interleaver
 pub mod Laws
 pub mod Words
-pub mod Stretches
+pub mod Stretching
 pub mod Walking
 pub mod Reach
 pub mod Digits

@@ -15,16 +15,21 @@ use Rattle.mapping.specs.Meaning.{MappingMeaning, blockSize}
 use Rattle.mapping.specs.declared.fault.MappingFault.{MappingFault}
 use Rattle.mapping.specs.declared.fault.MappingFault.the-variants.{Place, Memory}
 
--- A stretch that does not begin below the block's end is refused first, then a memory that is not of the block's length.
-abbrev pub stretchRefusal : MappingMeaning → List ℕ → ℕ → Option MappingFault
-stretchRefusal m memory start =
+-- A stretch that does not begin below the block's end is refused first, then a memory that has not as many octets as the block.
+abbrev pub stretchRefusal : MappingMeaning → ℕ → ℕ → Option MappingFault
+stretchRefusal m octets start =
     cond (ltb start (blockSize m)) (
-    cond (eqb (length memory) (blockSize m)) None (Some Memory)
+    cond (eqb octets (blockSize m)) None (Some Memory)
     ) (Some Place)
 
 -- how many octets a stretch takes: those that there is room for, or until the block ends
 abbrev pub stretch : MappingMeaning → ℕ → ℕ → ℕ
 stretch m start room = min room (blockSize m - start)
+
+-- the length of a stretch, or its refusal
+abbrev pub StretchAnswer : MappingMeaning → ℕ → ℕ → ℕ → Result ℕ MappingFault → Type 0
+StretchAnswer m octets start room (Ok taken) = (stretchRefusal m octets start ≡ None) × (taken ≡ stretch m start room)
+StretchAnswer m octets start room (Err e) = stretchRefusal m octets start ≡ Some e
 
 -- data octet p of the line
 abbrev pub lineOctet : MappingMeaning → List ℕ → ℕ → ℕ
@@ -38,8 +43,8 @@ pub record LineWritten (m : MappingMeaning) (memory : List ℕ) (start taken : �
   pub kept : (i : ℕ) → taken ≤ i → getD after i 0 ≡ getD before i 0
 
 abbrev pub WriteAnswer : MappingMeaning → List ℕ → ℕ → List ℕ → List ℕ → Result ℕ MappingFault → Type 0
-WriteAnswer m memory start before after (Ok taken) = (stretchRefusal m memory start ≡ None) × LineWritten m memory start taken before after
-WriteAnswer m memory start before after (Err e) = (stretchRefusal m memory start ≡ Some e) × (after ≡ before)
+WriteAnswer m memory start before after (Ok taken) = (stretchRefusal m (length memory) start ≡ None) × LineWritten m memory start taken before after
+WriteAnswer m memory start before after (Err e) = (stretchRefusal m (length memory) start ≡ Some e) × (after ≡ before)
 
 -- The first `taken` octets of the line, each plus its mask, are put to the sources of the places from `start` on. The sources of all
 -- other places are kept. Every memory place is the source of one line place, so this says what each octet of the memory is.
@@ -50,5 +55,5 @@ pub record LineStored (m : MappingMeaning) (line : List ℕ) (start taken : ℕ)
   pub kept : (p : ℕ) → p < blockSize m → (p < start) ⊎ (start + taken ≤ p) → getD after (m .source p) 0 ≡ getD before (m .source p) 0
 
 abbrev pub StoreAnswer : MappingMeaning → List ℕ → ℕ → List ℕ → List ℕ → Result ℕ MappingFault → Type 0
-StoreAnswer m line start before after (Ok taken) = (stretchRefusal m before start ≡ None) × LineStored m line start taken before after
-StoreAnswer m line start before after (Err e) = (stretchRefusal m before start ≡ Some e) × (after ≡ before)
+StoreAnswer m line start before after (Ok taken) = (stretchRefusal m (length before) start ≡ None) × LineStored m line start taken before after
+StoreAnswer m line start before after (Err e) = (stretchRefusal m (length before) start ≡ Some e) × (after ≡ before)

@@ -3,6 +3,8 @@ ghost use mathlib.Core.Path.{_≡_};
 ghost use Rattle.mapping.specs.Interleaver.{blockOf};
 use crate::Mapping;
 use crate::MappingFault;
+use crate::stretches::store_symbols;
+use crate::stretches::write_symbols;
 use crate::symbols::no_mask;
 use crate::symbols::symbol_fade;
 use crate::symbols::symbol_place;
@@ -51,5 +53,23 @@ pub impl Mapping for BlockMapping as BlockIsMapping {
 
     fn fade(&self, reach: usize) -> Result<usize, MappingFault> {
         symbol_fade(&self.settings, reach)
+    }
+
+    fn write_line(
+        &self,
+        memory: &[u8],
+        start: usize,
+        out: &mut [u8],
+    ) -> Result<usize, MappingFault> {
+        write_symbols(&self.settings, 0, memory, start, out)
+    }
+
+    fn store_line(
+        &self,
+        memory: &mut [u8],
+        start: usize,
+        line: &[u8],
+    ) -> Result<usize, MappingFault> {
+        store_symbols(&self.settings, 0, memory, start, line)
     }
 }

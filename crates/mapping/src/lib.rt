@@ -7,6 +7,7 @@ mod mapping;
 mod randomizer;
 mod sequence;
 mod stepped;
+mod stretches;
 mod symbols;
 mod theorems;
 mod walk;

@@ -4,6 +4,8 @@ ghost use Rattle.mapping.specs.Interleaver.{steppedOf};
 use crate::Mapping;
 use crate::MappingFault;
 use crate::SteppedMapping;
+use crate::stretches::store_symbols;
+use crate::stretches::write_symbols;
 use crate::symbols::no_mask;
 use crate::symbols::symbol_fade;
 use crate::symbols::symbol_place;
@@ -50,5 +52,23 @@ pub impl Mapping for SteppedMapping as SteppedIsMapping {
 
     fn fade(&self, reach: usize) -> Result<usize, MappingFault> {
         symbol_fade(&self.settings, reach)
+    }
+
+    fn write_line(
+        &self,
+        memory: &[u8],
+        start: usize,
+        out: &mut [u8],
+    ) -> Result<usize, MappingFault> {
+        write_symbols(&self.settings, self.step, memory, start, out)
+    }
+
+    fn store_line(
+        &self,
+        memory: &mut [u8],
+        start: usize,
+        line: &[u8],
+    ) -> Result<usize, MappingFault> {
+        store_symbols(&self.settings, self.step, memory, start, line)
     }
 }

@@ -50,7 +50,11 @@ impl Walk {
         if self.base + self.row_length < self.block {
             self.base += self.row_length;
             let next = self.offset + self.shift;
-            self.offset = if next < self.row_length { next } else { next - self.row_length };
+            self.offset = if next < self.row_length {
+                next
+            } else {
+                next - self.row_length
+            };
             return;
         }
         self.base = 0;

@@ -1,7 +1,7 @@
 use Prim.Native.Nat.{_+_}
 use lib.Bits.{bitXor}
 use lib.ListN.{getD}
-use Rattle.mapping.proofs.Stretches.{Stored}
+use Rattle.mapping.proofs.Stretching.{Stored}
 use Rattle.mapping.proofs.mapping.Mapping.store_line.Given as given
 
 abbrev pub Inv-loop-i : given.InvT-loop-i

@@ -1,6 +1,6 @@
 use Prim.Native.Nat.{_+_}
 use Rattle.mapping.specs.Bulk.{lineOctet}
-use Rattle.mapping.proofs.Stretches.{Filled}
+use Rattle.mapping.proofs.Stretching.{Filled}
 use Rattle.mapping.proofs.mapping.Mapping.write_line.Given as given
 
 abbrev pub Inv-loop-i : given.InvT-loop-i

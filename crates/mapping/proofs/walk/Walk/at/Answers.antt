@@ -20,12 +20,25 @@ mul-result-5 c =
 
 pub ghost-result : need.ghost-result
 ghost-result c =
-    let s = c .args .settings .now in
-    (symbol-le-row s _ _ (c .symbol-symbol .ensures) (c .row-length-row-length .ensures),
-    (omega (arith, row-length-high s, c .row-length-row-length .ensures),
-    (omega (arith, block-length-high s, c .block-length .ensures),
-    (column-lt s _ _ (c .args .step) (c .symbol-symbol .ensures) (c .row-length-row-length .ensures),
-    (mod-below _ _ (omega (arith, ranges s .symbol-low, c .symbol-symbol .ensures)),
-    (base-lt s _ _ _ _ (c .rows-rows .ensures) (c .row-length-row-length .ensures) (c .block-length .ensures),
-    (column-lt s _ _ _ (c .symbol-symbol .ensures) (c .row-length-row-length .ensures),
-    (column-lt s _ _ _ (c .symbol-symbol .ensures) (c .row-length-row-length .ensures), tt))))))))
+    let s = c .args .settings .now in (
+      symbol-le-row s _ _ (c .symbol-symbol .ensures) (c .row-length-row-length .ensures),
+      (
+        omega (arith, row-length-high s, c .row-length-row-length .ensures),
+        (
+          omega (arith, block-length-high s, c .block-length .ensures),
+          (
+            column-lt s _ _ (c .args .step) (c .symbol-symbol .ensures) (c .row-length-row-length .ensures),
+            (
+              mod-below _ _ (omega (arith, ranges s .symbol-low, c .symbol-symbol .ensures)),
+              (
+                base-lt s _ _ _ _ (c .rows-rows .ensures) (c .row-length-row-length .ensures) (c .block-length .ensures),
+                (
+                  column-lt s _ _ _ (c .symbol-symbol .ensures) (c .row-length-row-length .ensures),
+                  (column-lt s _ _ _ (c .symbol-symbol .ensures) (c .row-length-row-length .ensures), tt),
+                ),
+              ),
+            ),
+          ),
+        ),
+      ),
+    )

@@ -14,10 +14,15 @@ use Rattle.std.specs.declared.option.Option.the-variants.{Some, None}
 use Rattle.std.specs.declared.result.Result.{Result}
 use Rattle.std.specs.declared.result.Result.the-variants.{Ok, Err}
 use Rattle.mapping.specs.Answers.{placeAnswer}
-use Rattle.mapping.specs.Bulk.{stretchRefusal, stretch, lineOctet, LineWritten, LineStored}
+use Rattle.settings.specs.declared.Settings.{Settings}
+use Rattle.settings.specs.Lengths.{blockLength}
+use Rattle.mapping.specs.Bulk.{stretchRefusal, stretch, lineOctet, LineWritten, LineStored, WriteAnswer, StoreAnswer}
+use Rattle.mapping.specs.Interleaver.{blockSource, steppedSource, blockOf, steppedOf}
 use Rattle.mapping.specs.Meaning.{MappingMeaning, MappingLaws, blockSize}
 use Rattle.mapping.specs.declared.fault.MappingFault.{MappingFault}
-use Rattle.mapping.specs.declared.fault.MappingFault.the-variants.{Place}
+use Rattle.mapping.specs.declared.fault.MappingFault.the-variants.{Place, Memory}
+use Rattle.mapping.proofs.Bounds.{cut-of}
+use Rattle.mapping.proofs.Laws.{block-source-is}
 
 -- what a value told for a place says
 pub told : (m : MappingMeaning) (f : ℕ → ℕ) (p v : ℕ) (r : Result ℕ MappingFault) → r ≡ Ok v → r ≡ placeAnswer m f p → (p < blockSize m) × (v ≡ f p)
@@ -35,9 +40,22 @@ full-of m memory depth rows deep many seen =
     eqb-true (length memory) (255 * depth * rows) (sym seen) ∙ ap₂ (λ d n. 255 * d * n) deep many
 
 -- nothing is refused of a stretch that begins below the block's end, with a memory of the block's length
-pub none-refused : (m : MappingMeaning) (memory : List ℕ) (start : ℕ) → start < blockSize m → length memory ≡ blockSize m
-    → stretchRefusal m memory start ≡ None
-none-refused m memory start below full = rw (lt-ltb start (blockSize m) below, eq-eqb (length memory) (blockSize m) full)
+pub none-refused : (m : MappingMeaning) (octets start : ℕ) → start < blockSize m → octets ≡ blockSize m → stretchRefusal m octets start ≡ None
+none-refused m octets start below full = rw (lt-ltb start (blockSize m) below, eq-eqb octets (blockSize m) full)
+
+-- and what is not refused begins below the block's end, with a memory of the block's length
+pub not-refused : (m : MappingMeaning) (octets start : ℕ) → stretchRefusal m octets start ≡ None → (start < blockSize m) × (octets ≡ blockSize m)
+not-refused m octets start e = elim (cases-bool (ltb start (blockSize m))) [
+  | inl below ↦ elim (cases-bool (eqb octets (blockSize m))) [
+    | inl full ↦ (ltb-true start (blockSize m) below, eqb-true octets (blockSize m) full)
+    | inr other ↦
+        let same : Some Memory ≡ None = rw (below, other) at e in
+        let z : _≡_ {A = ℕ} 0 1 = cc in absurd (omega arith)
+  ]
+  | inr past ↦
+      let same : Some Place ≡ None = rw past at e in
+      let z : _≡_ {A = ℕ} 0 1 = cc in absurd (omega arith)
+]
 
 -- the first n places are written
 pub record Filled (f : ℕ → ℕ) (before after : List ℕ) (n : ℕ) : Type 0 where
@@ -64,12 +82,12 @@ filled-more f before after n v done room is =
 
 -- the whole of a stretch is written
 pub written-all : (m : MappingMeaning) (memory before after : List ℕ) (start taken n : ℕ) → start < blockSize m → length memory ≡ blockSize m
-    → taken ≡ min (length before) (length memory - start) → n ≡ taken → Filled (λ i. lineOctet m memory (start + i)) before after n
-    → (stretchRefusal m memory start ≡ None) × LineWritten m memory start taken before after
+    → taken ≡ stretch m start (length before) → n ≡ taken → Filled (λ i. lineOctet m memory (start + i)) before after n
+    → (stretchRefusal m (length memory) start ≡ None) × LineWritten m memory start taken before after
 written-all m memory before after start taken n below full taken-is all done = (
-  none-refused m memory start below full,
+  none-refused m (length memory) start below full,
   record {
-    taken-is = taken-is ∙ ap (λ b. min (length before) (b - start)) full;
+    taken-is = taken-is;
     size = done .size;
     written = λ i l. done .written i (omega arith);
     kept = λ i l. done .kept i (omega arith);
@@ -107,15 +125,47 @@ stored-more m laws f start before after n q v done full room from is =
 
 -- the whole of a stretch is stored
 pub stored-all : (m : MappingMeaning) (line before after : List ℕ) (start taken n : ℕ) → start < blockSize m → length before ≡ blockSize m
-    → taken ≡ min (length line) (length before - start) → n ≡ taken
+    → taken ≡ stretch m start (length line) → n ≡ taken
     → Stored m (λ i. bitXor (getD line i 0) (m .mask (start + i))) start before after n
-    → (stretchRefusal m before start ≡ None) × LineStored m line start taken before after
+    → (stretchRefusal m (length before) start ≡ None) × LineStored m line start taken before after
 stored-all m line before after start taken n below full taken-is all done = (
-  none-refused m before start below full,
+  none-refused m (length before) start below full,
   record {
-    taken-is = taken-is ∙ ap (λ b. min (length line) (b - start)) full;
+    taken-is = taken-is;
     size = done .size;
     stored = λ i l. done .stored i (omega arith);
     kept = λ p l out. done .kept p l (elim out [ inl first ↦ inl first | inr last ↦ inr (omega arith) ]);
   },
 )
+
+-- the stretches of the mapping with step 0 are those of the block mapping
+pub block-written : (s : Settings) (memory before after : List ℕ) (start : ℕ) (r : Result ℕ MappingFault)
+    → WriteAnswer (steppedOf s 0) memory start before after r → WriteAnswer (blockOf s) memory start before after r
+block-written s memory before after start (Ok taken) (free, w) =
+    let begun = not-refused (steppedOf s 0) (length memory) start free in (
+      free,
+      record {
+        taken-is = w .taken-is;
+        size = w .size;
+        written = λ i l. w .written i l
+            ∙ ap (λ q. bitXor (getD memory q 0) 0) (sym (block-source-is (s .depth) (s .rows) (s .symbol) (cut-of s) (start + i) (omega (arith, w .taken-is))));
+        kept = w .kept;
+      },
+    )
+block-written s memory before after start (Err e) w = w
+
+pub block-stored : (s : Settings) (line before after : List ℕ) (start : ℕ) (r : Result ℕ MappingFault)
+    → StoreAnswer (steppedOf s 0) line start before after r → StoreAnswer (blockOf s) line start before after r
+block-stored s line before after start (Ok taken) (free, w) =
+    let begun = not-refused (steppedOf s 0) (length before) start free in
+    let same : (p : ℕ) → p < blockLength s → blockSource (s .depth) (s .rows) (s .symbol) p ≡ steppedSource (s .depth) (s .rows) (s .symbol) 0 p =
+    block-source-is (s .depth) (s .rows) (s .symbol) (cut-of s) in (
+      free,
+      record {
+        taken-is = w .taken-is;
+        size = w .size;
+        stored = λ i l. ap (λ q. getD after q 0) (same (start + i) (omega (arith, w .taken-is))) ∙ w .stored i l;
+        kept = λ p l out. rw (same p l) (w .kept p l out);
+      },
+    )
+block-stored s line before after start (Err e) w = w
