@@ -3,6 +3,7 @@ pub mod Interleaver
 pub mod Laws
 pub mod Words
 pub mod Stretching
+pub mod Randomizing
 pub mod Walking
 pub mod Reach
 pub mod Digits

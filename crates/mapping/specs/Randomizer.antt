@@ -1,6 +1,9 @@
 -- The randomizer: an octet sequence, restarted at each block, that is added to the mask.
-use Prim.Native.Nat.{ℕ, zero, suc, _+_, _*_, _%_}
+use mathlib.Core.Path.{_≡_}
+use mathlib.Core.List.{List}
+use Prim.Native.Nat.{ℕ, zero, suc, _+_, _*_, _%_, _≤_, _<_, min}
 use lib.Bits.{bitXor}
+use lib.ListN.{length, getD}
 use Rattle.mapping.specs.Meaning.{MappingMeaning}
 
 -- Digits 0 to 7 are 1, and digit m + 8 is the sum modulo 2 of the digits m + 7, m + 5, m + 3 and m.
@@ -31,3 +34,15 @@ randomized m = record {
   mask = λ p. bitXor (m .mask p) (sequence p);
   fade = m .fade;
 }
+
+-- The sequence from octet `start` on is added to the first `count` octets, and the rest is kept.
+pub record SequenceAdded (start count : ℕ) (before after : List ℕ) : Type 0 where
+  pub size : length after ≡ length before
+  pub added : (i : ℕ) → i < count → getD after i 0 ≡ bitXor (getD before i 0) (sequence (start + i))
+  pub kept : (i : ℕ) → count ≤ i → getD after i 0 ≡ getD before i 0
+
+-- A part of the line, of as many octets as there is room for, with the sequence from octet `start` on added.
+pub record RandomizedPart (room start : ℕ) (line : List ℕ) (part : List ℕ × ℕ) : Type 0 where
+  pub size : part .1 ≡ min (length line) room
+  pub room-is : length (part .0) ≡ room
+  pub octet : (i : ℕ) → i < part .1 → getD (part .0) i 0 ≡ bitXor (getD line i 0) (sequence (start + i))

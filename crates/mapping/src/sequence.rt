@@ -1,6 +1,8 @@
 // The randomizer's sequence, as a table.
 ghost use mathlib.Core.Path.{_≡_};
-ghost use Rattle.mapping.specs.Randomizer.{sequence};
+ghost use Prim.Native.Nat.{_<_, _≤_};
+ghost use lib.ListN.{length};
+ghost use Rattle.mapping.specs.Randomizer.{sequence, SequenceAdded, RandomizedPart};
 
 // The sequence comes round after 255 octets; this is one round.
 const SEQUENCE: [u8; 255] = [
@@ -261,9 +263,45 @@ const SEQUENCE: [u8; 255] = [
     0x58,
 ];
 
+// An octet of the first round.
+fn octet_of_round(turn: usize) -> u8
+    requires { ⌜ turn < 255 ⌝ }
+    ensures { λ r. ⌜ r ≡ sequence turn ⌝ }
+{
+    SEQUENCE[turn]
+}
+
 // Octet p of the randomizer's sequence.
 pub fn sequence_octet(p: usize) -> u8
     ensures { λ r. ⌜ r ≡ sequence p ⌝ }
 {
-    SEQUENCE[p % 255]
+    octet_of_round(p % 255)
+}
+
+// Adds the sequence from octet `start` on to the first `count` octets, modulo 2.
+pub(crate) fn add_sequence(octets: &mut [u8], count: usize, start: usize)
+    requires { ⌜ count ≤ length (now octets) ⌝ }
+    ensures { λ _. ⌜ SequenceAdded start count (now (octets .entry)) (now (octets .exit)) ⌝ }
+{
+    let mut turn = start % 255;
+    for i in 0..count {
+        octets[i] ^= octet_of_round(turn);
+        turn = if turn < 254 { turn + 1 } else { 0 };
+    }
+}
+
+// The octets of a part.
+pub(crate) const PART: usize = 255;
+
+// A part of the line with the sequence from octet `start` on added, and its length.
+pub(crate) fn randomized_part(line: &[u8], start: usize) -> ([u8; PART], usize)
+    ensures { λ r. ⌜ RandomizedPart 255 start (now (line .entry)) r ⌝ }
+{
+    let mut part = [0; PART];
+    let size = line.len().min(PART);
+    for i in 0..size {
+        part[i] = line[i];
+    }
+    add_sequence(&mut part, size, start);
+    (part, size)
 }

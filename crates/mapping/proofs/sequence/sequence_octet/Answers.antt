@@ -1,6 +1,6 @@
-use Rattle.mapping.proofs.Digits.{octets, octet, shift, ones, table-at}
+use mathlib.Core.Path.{sym, _∙_}
+use Rattle.mapping.proofs.Digits.{sequence-mod}
 use Rattle.mapping.proofs.sequence.sequence_octet.Needs as need
 
 pub returns : need.returns
-unfolding octets octet shift ones
-returns c = table-at (c .args .p)
+returns c = c .octet-of-round .ensures ∙ sym (sequence-mod (c .args .p))
