@@ -2,6 +2,7 @@ pub mod Turns
 pub mod Interleaver
 pub mod Laws
 pub mod Words
+pub mod Costs
 pub mod Stretching
 pub mod Randomizing
 pub mod Walking

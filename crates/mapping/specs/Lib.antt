@@ -5,5 +5,6 @@ pub mod Refusal
 pub mod Answers
 pub mod Bulk
 pub mod Walk
+pub mod Cost
 pub mod FadeKept
 pub mod Figures
