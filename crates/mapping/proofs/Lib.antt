@@ -1,0 +1,12 @@
+pub mod Turns
+pub mod Interleaver
+pub mod Laws
+pub mod Words
+pub mod Costs
+pub mod Stretching
+pub mod Randomizing
+pub mod Walking
+pub mod Reach
+pub mod Digits
+pub mod Bounds
+pub mod Worked

@@ -1,0 +1,10 @@
+pub mod Meaning
+pub mod Interleaver
+pub mod Randomizer
+pub mod Refusal
+pub mod Answers
+pub mod Bulk
+pub mod Walk
+pub mod Cost
+pub mod FadeKept
+pub mod Figures
