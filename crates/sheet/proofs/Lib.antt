@@ -5,5 +5,4 @@ mod Numbers
 mod Parts
 mod Forms
 mod Misfits
-mod Fades
 mod Lines

@@ -1,5 +1,6 @@
 -- The figures that are quoted for a link.
-use Prim.Native.Nat.{ℕ, _+_, _*_, _/_, _%_}
+use Prim.Native.Nat.{ℕ, _*_}
+use Rattle.mapping.specs.Interleaver.{blockOf}
 use Rattle.settings.specs.declared.Settings.{Settings}
 use Rattle.settings.specs.Lengths.{blockLength, resyncLength}
 use Rattle.sheet.specs.declared.form.CodeName.{CodeName}
@@ -16,14 +17,11 @@ abbrev pub reach : CodeName → ℕ
 reach Rs16 = 16
 reach Bare = 0
 
--- Of t octets of each word of a row, the whole symbols come round once in a turn of all rows; what is left of a symbol comes in a row.
-abbrev pub fadeFor : Settings → ℕ → ℕ
-fadeFor s t = t * s .depth / s .symbol * s .rows * s .symbol + t * s .depth % s .symbol
-
+-- frame length, block length, the block mapping's fade for the code's reach, resync length
 abbrev pub figuresOf : CodeName → Settings → Quote
 figuresOf code s = record {
   frame = information code * s .depth;
   block = blockLength s;
-  fade = fadeFor s (reach code);
+  fade = blockOf s .fade (reach code);
   resync = resyncLength s;
 }

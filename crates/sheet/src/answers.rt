@@ -8,6 +8,9 @@ use crate::line::quote_line;
 use std::alloc::AllocError;
 use std::alloc::Global;
 
+// The octets of a sheet that are read.
+const SHEET_LIMIT: usize = 65_536;
+
 // The answer to one line, without its line feed.
 pub fn answer_line(heap: Global, line: &[u8]) -> Result<String, AllocError>
     ensures { λ r. ⌜ made r (λ s. AnswerTo (now (line .entry)) (string-bytes s)) ⌝ }
@@ -53,8 +56,8 @@ pub fn answer_sheet(heap: Global, sheet: &[u8]) -> Result<String, AllocError>
     ensures { λ r. ⌜ made r (λ s. AnswersTo (now (sheet .entry)) (string-bytes s)) ⌝ }
 {
     let mut answers = String::new(heap);
-    let mut rest = if sheet.len() > 65_536 {
-        &sheet[0..65_536]
+    let mut rest = if sheet.len() > SHEET_LIMIT {
+        &sheet[0..SHEET_LIMIT]
     } else {
         sheet
     };

@@ -2,6 +2,9 @@
 ghost use mathlib.Core.Path.{_≡_};
 ghost use Rattle.sheet.specs.Figures.{figuresOf, information, reach};
 use crate::form::CodeName;
+use mapping::BlockIsMapping;
+use mapping::BlockMapping;
+use mapping::Mapping;
 use settings::Settings;
 
 // What is quoted for a link, in octets.
@@ -39,17 +42,14 @@ impl CodeName {
     }
 }
 
-// The quote for a link with this code and these settings.
+// The quote for a link with this code and these settings; the fade is the block mapping's for the code's reach.
 pub fn quote_for(code: CodeName, settings: &Settings) -> Quote
     ensures { λ r. ⌜ r ≡ figuresOf code (now (settings .entry)) ⌝ }
 {
-    let depth = settings.depth();
-    let symbol = settings.symbol();
-    let mended = code.reach() * depth;
     Quote {
-        frame: code.information() * depth,
+        frame: code.information() * settings.depth(),
         block: settings.block_length(),
-        fade: mended / symbol * settings.rows() * symbol + mended % symbol,
+        fade: BlockMapping::new(*settings).fade(code.reach()).unwrap(),
         resync: settings.resync_length(),
     }
 }

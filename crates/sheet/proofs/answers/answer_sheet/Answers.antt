@@ -7,16 +7,16 @@ use Rattle.std.specs.Of.String.{string-bytes}
 use Rattle.sheet.specs.Answers.{sheetLimit, lineFeed}
 use Rattle.sheet.proofs.Lines.{completes-none, completes-more, completes-all}
 use Rattle.sheet.proofs.answers.answer_sheet.Needs as need
-use Rattle.sheet.proofs.answers.answer_sheet.Needs.{then-sheet-gt65536, else-sheet-gt65536}
+use Rattle.sheet.proofs.answers.answer_sheet.Needs.{then-sheet-gt-SHEET-LIMIT, else-sheet-gt-SHEET-LIMIT}
 
 pub loop-rest-holds : need.loop-rest-holds
 loop-rest-holds c =
-    let whole : c .if-sheet-gt65536 .rest .now ≡ take sheetLimit (c .args .sheet .now) =
-    elim (c .if-sheet-gt65536 .came) [
-      | then-sheet-gt65536 w ↦ ap (λ r. r .now) (w .rest-is)
-      | else-sheet-gt65536 w ↦ ap (λ r. r .now) (w .rest-is) ∙ sym (take-all sheetLimit (c .args .sheet .now) (w .if-sheet-gt65536 .left))
+    let whole : c .if-sheet-gt-SHEET-LIMIT .rest .now ≡ take sheetLimit (c .args .sheet .now) =
+    elim (c .if-sheet-gt-SHEET-LIMIT .came) [
+      | then-sheet-gt-SHEET-LIMIT w ↦ ap (λ r. r .now) (w .rest-is)
+      | else-sheet-gt-SHEET-LIMIT w ↦ ap (λ r. r .now) (w .rest-is) ∙ sym (take-all sheetLimit (c .args .sheet .now) (w .if-sheet-gt-SHEET-LIMIT .left))
     ] in
-    completes-none (take sheetLimit (c .args .sheet .now)) (c .if-sheet-gt65536 .rest .now) (string-bytes (c .new-answers .result)) whole (c .new-answers .ensures .bytes)
+    completes-none (take sheetLimit (c .args .sheet .now)) (c .if-sheet-gt-SHEET-LIMIT .rest .now) (string-bytes (c .new-answers .result)) whole (c .new-answers .ensures .bytes)
 
 pub loop-rest-again : need.loop-rest-again
 unfolding lib.Utf8.encode
