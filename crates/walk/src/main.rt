@@ -1,4 +1,5 @@
-// Holds the walk of the mappings against their sources one by one, over whole blocks of several settings.
+// Holds the walk of the mappings against their sources one by one, over whole blocks of several settings;
+// with an argument it times both instead.
 use mapping::BlockIsMapping;
 use mapping::BlockMapping;
 use mapping::Mapping;
@@ -8,13 +9,16 @@ use mapping::RandomizedIsMapping;
 use mapping::SteppedIsMapping;
 use mapping::SteppedMapping;
 use settings::Settings;
+use std::env;
 use std::io;
 
 mod compare;
+mod timing;
 
 use compare::Verdict;
 use compare::compare;
 use compare::fill;
+use timing::time_all;
 
 // Settings and a step, 0 for the block mapping.
 #[derive(Clone, Copy)]
@@ -146,6 +150,9 @@ fn show(rt: &LibcRuntime, case: Case) -> io::Result<()> {
 }
 
 fn main(rt: LibcRuntime) -> io::Result<()> {
+    if env::args(&rt)?.count() > 1 {
+        return time_all(&rt);
+    }
     for case in CASES {
         show(&rt, case)?;
     }
