@@ -1,10 +1,10 @@
 -- The cost of line places, and the fade by it.
 use mathlib.Core.Path.{_≡_}
-use Prim.Native.Nat.{ℕ, _+_, _≤_, _<_}
+use Prim.Native.Nat.{ℕ, _<_}
 use native.Mathlib.Omega.{arith}
 use Rattle.settings.specs.declared.Settings.{Settings}
 use Rattle.mapping.specs.Cost.{CostOf, SymbolCosts}
-use Rattle.mapping.specs.Interleaver.{blockSource, stepped, symbolCost, steppedOf, blockOf}
+use Rattle.mapping.specs.Interleaver.{blockSource, symbolCost, steppedOf}
 use Rattle.mapping.specs.Meaning.{MappingMeaning, blockSize}
 use Rattle.mapping.proofs.Bounds.{cut-of}
 use Rattle.mapping.proofs.Interleaver.{cost, cost-met, cost-of-fade, cost-past-fade}

@@ -1,7 +1,7 @@
 -- The interleaver at any step, 0 among them, which is the block mapping: its sources are one to one, and how many sources of a run
 -- belong to one word. Throughout, I is the depth, N the rows, k the symbol and d the step.
-use mathlib.Core.Path.{_≡_, refl, ap, sym, _∙_}
-use mathlib.Core.Bool.{Bool, cond}
+use mathlib.Core.Path.{_≡_, ap, sym, _∙_}
+use mathlib.Core.Bool.{cond}
 use mathlib.Core.Logic.{inl, inr}
 use Prim.Native.Nat.{ℕ, zero, suc, _+_, _-_, _*_, _/_, _%_, _≤_, _<_, min}
 use native.Mathlib.Nat.{le-refl, add-zero, add-suc, add-assoc, mul-comm, div-one, add-mul-mod-self-right, mod-add-mod, mod-eq-of-lt, div-add-mod'}
@@ -10,9 +10,9 @@ use lib.Dec.{eqb, lit<}
 use Rattle.std.proofs.shelf.Bits.{div-mul-add, mod-mul-add, mod-below, mul-add-lt, div-below, mul-le}
 use Rattle.std.proofs.shelf.Tests.{cases-lt, cases-bool, eqb-true}
 use Rattle.octets.proofs.Counting.{count-zero, count-suc}
-use Rattle.mapping.specs.Meaning.{MappingMeaning, MappingLaws, Holding, ofRowWord, sourcesOf, blockSize, maxReach}
+use Rattle.mapping.specs.Meaning.{MappingLaws, ofRowWord, sourcesOf, maxReach}
 use Rattle.mapping.specs.Interleaver.{steppedSource, symbolFade, mostOfRow, symbolCost, stepped}
-use Rattle.mapping.proofs.Turns.{split, dealt, dealt-suc, dealt-own, dealt-rounds, dealt-up, dealt-turn, dealt-none, dealt-first, dealt-zero, dealt-up-to}
+use Rattle.mapping.proofs.Turns.{split, dealt, dealt-suc, dealt-own, dealt-rounds, dealt-up, dealt-turn, dealt-none, dealt-zero, dealt-up-to}
 
 -- round by z and back
 turn-back : (x z C : ℕ) → 0 < C → ((x + z) % C + (C - z % C)) % C ≡ x % C

@@ -1,16 +1,14 @@
 -- Stretches under the randomizer, from those of the mapping below.
-use mathlib.Core.Path.{_≡_, refl, ap, sym, _∙_}
+use mathlib.Core.Path.{_≡_, ap, sym, _∙_}
 use mathlib.Core.List.{List}
-use mathlib.Core.Logic.{_⊎_, inl, inr}
-use Prim.Native.Nat.{ℕ, _+_, _-_, _≤_, _<_, min}
-use native.Mathlib.Nat.{add-assoc}
+use mathlib.Core.Logic.{inl, inr}
+use Prim.Native.Nat.{ℕ, _+_, _-_, _≤_, _<_}
 use native.Mathlib.Omega.{arith}
 use lib.Bits.{bitXor, xor-assoc, xor-comm}
 use lib.ListN.{length, getD, take, drop}
 use Rattle.std.proofs.shelf.Lists.{getD-take, getD-drop, length-take}
 use Rattle.std.proofs.shelf.Tests.{cases-lt}
-use Rattle.std.specs.declared.option.Option.the-variants.{None}
-use Rattle.mapping.specs.Bulk.{stretchRefusal, stretch, lineOctet, LineWritten, LineStored}
+use Rattle.mapping.specs.Bulk.{stretch, LineWritten, LineStored}
 use Rattle.mapping.specs.Meaning.{MappingMeaning, blockSize}
 use Rattle.mapping.specs.Randomizer.{sequence, randomized, SequenceAdded, RandomizedPart}
 use Rattle.mapping.proofs.Stretching.{Stored}

@@ -1,12 +1,12 @@
 -- What a link takes from the laws: if all that is altered of a block lies in a fade, no word has more than t altered octets.
-use mathlib.Core.Path.{_≡_, refl, ap, ap₂, sym, _∙_, subst}
-use mathlib.Core.Bool.{Bool, true, not}
-use mathlib.Core.Logic.{_⊎_, inl, inr}
+use mathlib.Core.Path.{_≡_, refl, ap, sym, _∙_, subst}
+use mathlib.Core.Bool.{Bool, true}
+use mathlib.Core.Logic.{inl, inr}
 use mathlib.Core.List.{List}
 use Prim.Native.Nat.{ℕ, _+_, _-_, _*_, _≤_, _<_}
 use native.Mathlib.Omega.{arith}
-use lib.Dec.{eqb, leb}
-use lib.ListN.{getD, take, drop}
+use lib.Dec.{leb}
+use lib.ListN.{getD, drop}
 use Rattle.std.proofs.shelf.Counted.{getD-map-counting}
 use Rattle.std.proofs.shelf.Lists.{getD-take, getD-drop}
 use Rattle.std.proofs.shelf.Tests.{eq-eqb, cases-lt, cases-bool, leb-true, leb-false, both-ways, not-from-true}
@@ -14,7 +14,7 @@ use Rattle.octets.specs.Counting.{count}
 use Rattle.octets.specs.Octets.{differs, altered}
 use Rattle.octets.specs.Words.{wordLength, wordPlace, wordOf}
 use Rattle.octets.proofs.Counting.{count-into}
-use Rattle.mapping.specs.Meaning.{MappingMeaning, MappingLaws, Holding, ofRowWord, sourcesOf, blockSize, maxReach}
+use Rattle.mapping.specs.Meaning.{MappingMeaning, MappingLaws, ofRowWord, sourcesOf, blockSize, maxReach}
 use Rattle.std.specs.declared.result.Result.{Result}
 use Rattle.mapping.specs.Answers.{fadeAnswer}
 use Rattle.mapping.specs.FadeKept.{rowOf, memoryWord, AlteredWithin, FadeKept, RiddenFade}

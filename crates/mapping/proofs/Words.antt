@@ -1,11 +1,9 @@
 -- Where the octets of a word of a block's memory lie.
 use mathlib.Core.Path.{_≡_, refl, ap, sym, _∙_}
 use mathlib.Core.Bool.{true}
-use mathlib.Core.List.{List}
-use Prim.Native.Nat.{ℕ, _+_, _*_, _/_, _%_, _<_}
+use Prim.Native.Nat.{ℕ, _+_, _*_, _/_, _<_}
 use native.Mathlib.Nat.{mul-comm}
 use native.Mathlib.Omega.{arith}
-use lib.ListN.{getD}
 use Rattle.std.proofs.shelf.Bits.{div-mul-add, mod-mul-add, mul-add-lt}
 use Rattle.std.proofs.shelf.Tests.{eq-eqb}
 use Rattle.octets.specs.Words.{wordLength, wordPlace}

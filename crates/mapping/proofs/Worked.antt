@@ -1,6 +1,5 @@
 -- The figures, worked out.
 use mathlib.Core.Path.{refl, sym}
-use Prim.Native.Nat.{_*_}
 use native.Mathlib.Nat.{zero-mul, zero-div, zero-mod}
 use native.Mathlib.Omega.{arith}
 use Rattle.octets.specs.Counting.{sum}

@@ -1,5 +1,4 @@
 // Whole stretches of the line of the block and the stepped mapping, by a walk.
-ghost use mathlib.Core.Path.{_≡_};
 ghost use Prim.Native.Nat.{_≤_};
 ghost use Rattle.mapping.specs.Bulk.{StretchAnswer, WriteAnswer, StoreAnswer};
 ghost use Rattle.mapping.specs.Interleaver.{steppedOf};
