@@ -1,1 +1,2 @@
 pub mod EveryWord
+pub mod Passed

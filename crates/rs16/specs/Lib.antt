@@ -1,0 +1,5 @@
+pub mod Field
+pub mod DualBasis
+pub mod Codewords
+pub mod Division
+pub mod Answers
