@@ -8,7 +8,7 @@ use Rattle.std.proofs.shelf.Lists.{getD-past, length-replicate, take-replicate}
 use Rattle.octets.specs.Octets.{Octets}
 use Rattle.octets.specs.Words.{wordLength, wordPlace, wordOf}
 use Rattle.octets.proofs.Words.{row-from-words, word-size, word-at, word-from-places}
-use Rattle.rs16.specs.Answers.{OfZeroFrame, BenchValues}
+use Rattle.rs16.specs.Bench.{OfZeroFrame, BenchValues}
 use Rattle.rs16.specs.Codewords.{root, value, syndrome, Codeword}
 use Rattle.rs16.specs.DualBasis.{combine, lineOctet}
 use Rattle.rs16.specs.Field.{_⊕_, _⊗_, IsOctet, mul, mulDigits, timesAlpha, pow, alpha, FieldLaws}

@@ -2,4 +2,5 @@ pub mod Field
 pub mod DualBasis
 pub mod Codewords
 pub mod Division
-pub mod Answers
+pub mod Calls
+pub mod Bench

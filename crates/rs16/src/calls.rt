@@ -7,7 +7,7 @@ ghost use Rattle.octets.specs.Counting.{tabulate};
 ghost use Rattle.octets.specs.Words.{wordOf};
 ghost use Rattle.code.specs.Calls.{Encodes};
 ghost use Rattle.code.specs.Refusal.{shapeRefusal};
-ghost use Rattle.rs16.specs.Answers.{SyndromesGiven};
+ghost use Rattle.rs16.specs.Calls.{SyndromesGiven};
 ghost use Rattle.rs16.specs.Codewords.{rs16, root, value};
 use crate::division::checks_of;
 use crate::division::residue_of;

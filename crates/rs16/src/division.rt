@@ -27,7 +27,7 @@ fn divide_step(octet: u8, r: [u8; 32]) -> [u8; 32]
 }
 
 // The check octets that make information octets a codeword.
-pub fn checks_of(information: &[u8]) -> [u8; 32]
+pub(crate) fn checks_of(information: &[u8]) -> [u8; 32]
     ensures { λ r. ⌜ r ≡ checks (now (information .entry)) ⌝ }
 {
     let mut r = [0; 32];
@@ -39,7 +39,7 @@ pub fn checks_of(information: &[u8]) -> [u8; 32]
 }
 
 // The remainder of a word, which is 0 for a codeword.
-pub fn residue_of(word: &[u8]) -> [u8; 32]
+pub(crate) fn residue_of(word: &[u8]) -> [u8; 32]
     requires { ⌜ length (now word) ≡ 255 ⌝ }
     ensures { λ r. ⌜ r ≡ residue (now (word .entry)) ⌝ }
 {

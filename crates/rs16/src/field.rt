@@ -9,7 +9,7 @@ use crate::tables::LOGARITHMS;
 use crate::tables::POWERS;
 
 // α to the power i.
-pub fn power(i: usize) -> u8
+pub(crate) fn power(i: usize) -> u8
     requires { ⌜ i < 510 ⌝ }
     ensures { λ r. ⌜ r ≡ pow alpha i ⌝ }
 {

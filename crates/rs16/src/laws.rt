@@ -1,6 +1,6 @@
 // Theorems on the definitions: each function answers nothing, and its contract is the theorem.
 ghost use Rattle.code.specs.Meaning.{CodeLaws};
-ghost use Rattle.rs16.specs.Answers.{BenchValues};
+ghost use Rattle.rs16.specs.Bench.{BenchValues};
 ghost use Rattle.rs16.specs.Codewords.{rs16};
 ghost use Rattle.rs16.specs.Field.{FieldLaws};
 

@@ -6,7 +6,7 @@ ghost use lib.ListN.{length, take};
 ghost use Rattle.octets.specs.Words.{wordOf, KeepsOthers};
 
 // A word of the row.
-pub fn gathered(row: &[u8], depth: usize, word: usize) -> [u8; 255]
+pub(crate) fn gathered(row: &[u8], depth: usize, word: usize) -> [u8; 255]
     requires { ⌜ length (now row) ≡ 255 * depth ⌝ ∗ ⌜ word < depth ⌝ }
     ensures { λ r. ⌜ r ≡ wordOf depth word (now (row .entry)) ⌝ }
 {
@@ -20,14 +20,14 @@ pub fn gathered(row: &[u8], depth: usize, word: usize) -> [u8; 255]
 }
 
 // Puts check octets behind the information octets of a word.
-pub fn store_checks(row: &mut [u8], depth: usize, word: usize, checks: [u8; 32])
+pub(crate) fn store_checks(row: &mut [u8], depth: usize, word: usize, checks: [u8; 32])
     requires { ⌜ length (now row) ≡ 255 * depth ⌝ ∗ ⌜ word < depth ⌝ }
     ensures word { λ _. ⌜ wordOf depth word (now (row .exit)) ≡ take 223 (wordOf depth word (now (row .entry))) ++ checks ⌝ }
     ensures others { λ _. ⌜ KeepsOthers depth word (now (row .entry)) (now (row .exit)) ⌝ }
 {
-    let mut place = 223 * depth + word;
+    let mut at = 223 * depth + word;
     for k in 0..32 {
-        row[place] = checks[k];
-        place += depth;
+        row[at] = checks[k];
+        at += depth;
     }
 }

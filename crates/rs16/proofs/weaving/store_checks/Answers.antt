@@ -9,12 +9,12 @@ use Rattle.octets.proofs.Words.{keeps-self, place-below, place-next}
 use Rattle.rs16.proofs.Woven.{Stored, stored-more, stored-all}
 use Rattle.rs16.proofs.weaving.store_checks.Needs as need
 
-pub index-row-place : need.index-row-place
-index-row-place c =
+pub index-row-at : need.index-row-at
+index-row-at c =
     omega (arith, c .loop-k .inv .0, place-below (c .args .depth) (c .args .word) (223 + c .loop-k .k) 255 (c .pre .1) (omega arith), c .pre .0, c .loop-k .kept .row)
 
-pub add-place : need.add-place
-add-place c =
+pub add-at : need.add-at
+add-at c =
     let low : wordPlace (c .args .depth) (c .args .word) 223 < 255 * c .args .depth = place-below (c .args .depth) (c .args .word) 223 255 (c .pre .1) (omega arith) in
     search needs
 
@@ -30,7 +30,7 @@ loop-k-again c =
     let checks : List ℕ = c .args .checks in
     let before : List ℕ = c .args .row .now in
     let row : List ℕ = c .loop-k .row in
-    let at : c .loop-k .place ≡ wordPlace d w (223 + k) = c .loop-k .inv .0 in (
+    let at : c .loop-k .at ≡ wordPlace d w (223 + k) = c .loop-k .inv .0 in (
       ap (λ z. z + d) at ∙ place-next d w (223 + k) ∙ ap (wordPlace d w) (omega arith),
       subst (λ p. Stored d w (k + 1) checks before (set row p (getD checks k 0))) (sym at)
           (stored-more d w (c .pre .1) checks before k row (c .loop-k-test .taken) (c .pre .0) (c .loop-k .inv .1)),

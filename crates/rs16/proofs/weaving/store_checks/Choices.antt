@@ -6,4 +6,4 @@ use Rattle.rs16.proofs.weaving.store_checks.Given as given
 
 abbrev pub Inv-loop-k : given.InvT-loop-k
 Inv-loop-k l =
-    (l .place ≡ wordPlace (l .depth) (l .word) (223 + l .k)) × Stored (l .depth) (l .word) (l .k) (l .checks) (l .entry .row) (l .row)
+    (l .at ≡ wordPlace (l .depth) (l .word) (223 + l .k)) × Stored (l .depth) (l .word) (l .k) (l .checks) (l .entry .row) (l .row)

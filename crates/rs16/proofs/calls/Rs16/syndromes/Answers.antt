@@ -6,7 +6,7 @@ use Rattle.code.specs.declared.fault.ShapeFault.{ShapeFault}
 use Rattle.octets.specs.Counting.{tabulate}
 use Rattle.octets.specs.Words.{wordOf}
 use Rattle.octets.proofs.Words.{word-size}
-use Rattle.rs16.specs.Answers.{SyndromesGiven}
+use Rattle.rs16.specs.Calls.{SyndromesGiven}
 use Rattle.rs16.specs.Codewords.{root, value}
 use Rattle.rs16.specs.Division.{residue}
 use Rattle.rs16.proofs.Residues.{residue-syndromes}
