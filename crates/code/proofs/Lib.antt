@@ -1,2 +1,3 @@
 pub mod EveryWord
 pub mod Passed
+pub mod Reach
