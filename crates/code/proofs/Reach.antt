@@ -1,8 +1,8 @@
 -- At most one codeword lies within reach of a word.
-use mathlib.Core.Path.{_≡_, ap, sym, _∙_}
+use mathlib.Core.Path.{_≡_, ap, _∙_}
 use mathlib.Core.List.{List}
-use mathlib.Core.Logic.{_⊎_, inl, inr}
-use Prim.Native.Nat.{ℕ, _+_, _*_, _≤_, _<_}
+use mathlib.Core.Logic.{inl, inr}
+use Prim.Native.Nat.{ℕ, _*_, _≤_}
 use native.Mathlib.Omega.{arith}
 use Rattle.std.proofs.shelf.Tests.{cases-eq}
 use Rattle.octets.specs.Octets.{altered}
@@ -23,4 +23,4 @@ near-codewords code laws a b ca cb near = elim (cases-eq (altered wordLength a b
 pub one-reached : (code : CodeMeaning) → CodeLaws code → (word a b : List ℕ) → Reached code word a → Reached code word b → a ≡ b
 one-reached code laws word a b ra rb =
     near-codewords code laws a b (ra .is-codeword) (rb .is-codeword)
-      (omega (arith, altered-triangle wordLength a word b, altered-comm wordLength a word, ra .near, rb .near))
+    (omega (arith, altered-triangle wordLength a word b, altered-comm wordLength a word, ra .near, rb .near))

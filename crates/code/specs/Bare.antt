@@ -1,5 +1,4 @@
 -- The code bare, for a fibre that alters nothing: every word is a codeword.
-use Prim.Native.Nat.{ℕ}
 use Rattle.octets.specs.Octets.{Octets}
 use Rattle.octets.specs.Words.{wordLength}
 use Rattle.code.specs.Meaning.{CodeMeaning}

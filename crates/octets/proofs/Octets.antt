@@ -1,5 +1,5 @@
 -- Lemmas on lists of octets, and on the number of places in which two lists differ.
-use mathlib.Core.Path.{_≡_, refl, ap, ap₂, sym, _∙_}
+use mathlib.Core.Path.{_≡_, refl, ap, sym, _∙_}
 use mathlib.Core.Bool.{Bool, true, false, not, _||_, cond}
 use mathlib.Core.List.{List, [], _∷_}
 use Prim.Native.Nat.{ℕ, zero, suc, _+_, _≤_, _<_}
@@ -7,7 +7,7 @@ use native.Mathlib.Omega.{arith}
 use lib.Dec.{eqb}
 use lib.ListN.{length, getD, take}
 use Rattle.std.proofs.shelf.Lists.{ext-getD, getD-take, length-take-le}
-use Rattle.std.proofs.shelf.Tests.{eqb-true, eq-eqb, ne-eqb, not-false}
+use Rattle.std.proofs.shelf.Tests.{eqb-true, eq-eqb, not-false}
 use Rattle.std.proofs.shelf.Ways.{tells}
 use Rattle.octets.specs.Counting.{sum, count}
 use Rattle.octets.specs.Octets.{Octets, differs, altered}

@@ -1,11 +1,9 @@
 -- The laws of the field. Products are additive in each factor, so the laws follow from tests at 1, 2, 4, .., 128.
-use mathlib.Core.Path.{_≡_, refl, ap, ap₂, sym, _∙_, subst}
-use mathlib.Core.Bool.{Bool, true, false}
-use Prim.Native.Nat.{ℕ, zero, suc, _+_, _*_, _/_, _%_, _<_, _^_}
-use native.Mathlib.Nat.{not-suc-le-zero, le-of-suc-le-suc, one-mul, zero-mul, mod-lt, mod-mod, mod-eq-of-lt, add-zero}
-use native.Mathlib.Omega.{arith}
+use mathlib.Core.Path.{_≡_, refl, ap, ap₂, sym, _∙_}
+use Prim.Native.Nat.{ℕ, zero, suc, _*_, _/_, _%_, _<_, _^_}
+use native.Mathlib.Nat.{le-of-suc-le-suc, one-mul, zero-mul, mod-lt, mod-mod, add-zero}
 use lib.Bits.{bitXor, xor-mod, xor-shr, xor-assoc, xor-comm, xor-zero-r, xor-self, xor-lt, xor-block}
-use lib.Dec.{T, eqb, eqb→eq, ltb, ltb→lt, lit<}
+use lib.Dec.{T, eqb, eqb→eq, lit<}
 use Rattle.rs16.specs.Field.{timesAlpha, mulDigits, mul}
 use Rattle.rs16.proofs.Below.{all, below, below₂}
 use Rattle.rs16.proofs.Additive.{agree, not-digit, at-zero}

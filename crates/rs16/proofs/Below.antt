@@ -1,10 +1,10 @@
 -- A rule for every number below n, by one computed test.
-use mathlib.Core.Path.{_≡_, refl, subst, sym}
+use mathlib.Core.Path.{subst, sym}
 use mathlib.Core.Bool.{Bool, true, false}
-use mathlib.Core.Logic.{_⊎_, inl, inr}
+use mathlib.Core.Logic.{inl, inr}
 use Prim.Native.Nat.{ℕ, zero, suc, _<_}
 use native.Mathlib.Nat.{not-suc-le-zero, eq-or-lt-of-le, le-of-suc-le-suc}
-use lib.Dec.{T, eqb, eqb→eq}
+use lib.Dec.{T}
 
 abbrev pub both : Bool → Bool → Bool
 both true b = b

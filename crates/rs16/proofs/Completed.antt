@@ -3,7 +3,7 @@ use mathlib.Core.Path.{_≡_, ap, sym, _∙_, subst}
 use mathlib.Core.List.{List, _++_}
 use Prim.Native.Nat.{ℕ, _<_}
 use native.Mathlib.Omega.{arith}
-use lib.ListN.{length, getD, take}
+use lib.ListN.{getD, take}
 use Rattle.octets.specs.Octets.{Octets}
 use Rattle.octets.specs.Words.{wordLength, wordOf, KeepsOthers}
 use Rattle.octets.proofs.Octets.{octets-take}

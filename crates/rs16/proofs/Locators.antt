@@ -4,7 +4,7 @@ use Prim.Native.Nat.{ℕ, zero, suc, _+_, _*_, _%_, _<_}
 use native.Mathlib.Nat.{mul-suc, mul-zero as times-zero, mul-assoc as times-assoc, mul-comm as times-comm, add-comm as plus-comm}
 use native.Mathlib.Omega.{arith}
 use lib.Dec.{eqb, eqb→eq}
-use Rattle.rs16.specs.Field.{_⊕_, _⊗_, IsOctet, mul, pow, alpha}
+use Rattle.rs16.specs.Field.{_⊗_, IsOctet, pow, alpha}
 use Rattle.rs16.specs.Codewords.{root}
 use Rattle.rs16.proofs.Below.{all, below}
 use Rattle.rs16.proofs.Powers.{exp, exp-distinct, exp-mod, exp-not-zero, pow-exp}

@@ -3,7 +3,7 @@ use mathlib.Core.Path.{_≡_, refl, ap, ap₂, sym, _∙_, subst, fun-ext}
 use mathlib.Core.List.{List, [], _∷_, map}
 use mathlib.Core.Logic.{_⊎_, inl, inr}
 use Prim.Native.Nat.{ℕ, zero, suc, _+_, _≤_, _<_, suc-le-suc}
-use native.Mathlib.Nat.{le-of-suc-le-suc, not-suc-le-zero, zero-lt-suc, le-suc, le-trans, suc-add, zero-add as zero-plus, le-refl}
+use native.Mathlib.Nat.{le-of-suc-le-suc, not-suc-le-zero, zero-lt-suc, le-suc, le-trans, suc-add, zero-add as zero-plus}
 use native.Mathlib.Omega.{arith}
 use lib.Bits.{xor-assoc, xor-comm, xor-self, xor-lt}
 use lib.Dec.{lit<}

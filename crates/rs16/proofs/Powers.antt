@@ -1,14 +1,14 @@
 -- The powers of α: α^255 is 1, and α^0 to α^254 are all octets but 0, each once. Products by logarithms.
 use mathlib.Core.Path.{_≡_, refl, ap, ap₂, sym, _∙_, subst}
-use mathlib.Core.Bool.{Bool, true, false, not}
+use mathlib.Core.Bool.{true, false, not}
 use mathlib.Core.List.{List, [], _∷_}
 use Prim.Native.Nat.{ℕ, zero, suc, _+_, _*_, _/_, _%_, _<_, _^_}
 use native.Mathlib.Nat.{not-suc-le-zero, le-of-suc-le-suc, zero-add, suc-add, add-suc, add-zero as plus-zero}
 use lib.Dec.{T, T-not, eqb, eqb→eq, ltb, ltb→lt, lit<}
 use native.Mathlib.Omega.{arith}
-use lib.ListN.{getD, length}
+use lib.ListN.{getD}
 use Rattle.rs16.specs.Field.{timesAlpha, mulDigits, mul, pow, alpha}
-use Rattle.rs16.proofs.Below.{both, both-left, both-right, all, below, below₂}
+use Rattle.rs16.proofs.Below.{all, below}
 use Rattle.rs16.proofs.Arithmetic.{timesAlpha-lt, mul-comm, mul-assoc, mul-one}
 
 -- α^i, by doubling

@@ -1,28 +1,26 @@
 -- The remainder of the division by the generator: its value at each root of the code, and the codeword that it completes.
-use mathlib.Core.Path.{_≡_, refl, ap, ap₂, sym, _∙_, subst}
+use mathlib.Core.Path.{_≡_, refl, ap, ap₂, sym, _∙_}
 use mathlib.Core.List.{List, [], _∷_, _++_}
-use Prim.Native.Nat.{ℕ, zero, suc, _+_, _-_, _*_, _%_, _≤_, _<_}
+use Prim.Native.Nat.{ℕ, zero, suc, _+_, _-_, _*_, _%_, _<_}
 use native.Mathlib.Nat.{suc-inj, suc-ne-zero}
 use native.Mathlib.Omega.{arith}
 use lib.Dec.{T, eqb, eqb→eq, lit<}
 use lib.ListN.{length, getD, take, drop, replicate, length-append}
 use Rattle.std.specs.shelf.Lists.{All}
 use Rattle.std.proofs.shelf.Elements.{all-getD, all-append, all-drop}
-use Rattle.std.proofs.shelf.Lists.{getD-past, getD-take, take-at, length-drop}
-use Rattle.std.proofs.shelf.Tests.{cases-lt}
-use mathlib.Core.Logic.{_⊎_, inl, inr}
+use Rattle.std.proofs.shelf.Lists.{getD-take, take-at}
 use Rattle.octets.specs.Octets.{Octets}
 use Rattle.octets.specs.Words.{wordLength}
 use Rattle.octets.proofs.Octets.{altered-behind}
 use Rattle.code.specs.Meaning.{CodeLaws}
 use Rattle.rs16.specs.Field.{_⊕_, _⊗_, IsOctet, mul, mulDigits, timesAlpha, pow}
-use Rattle.rs16.specs.DualBasis.{lineOctet, element}
+use Rattle.rs16.specs.DualBasis.{element}
 use Rattle.rs16.specs.Codewords.{value, root, syndrome, Codeword, rs16}
 use Rattle.rs16.specs.Division.{generator, multiple, plusMultiple, divideStep, remainder, checks}
 use Rattle.rs16.proofs.Below.{all, below}
 use Rattle.rs16.proofs.Powers.{exp}
-use Rattle.rs16.proofs.Polynomials.{ring, add-zero, add-self, zero-add, add-assoc, add-comm, add-left-comm, add-self-left, mul-assoc, mul-comm, mul-left-comm, mul-add, add-mul, mul-zero, zero-mul, mul-one, one-mul, in-mul, in-add, in-zero, in-pow, pow-add, difference}
-use Rattle.rs16.proofs.DualBasis.{element-add, element-octet, element-zero, element-line-octet, line-octet-octet}
+use Rattle.rs16.proofs.Polynomials.{ring, add-zero, add-self, zero-mul, mul-one, one-mul, in-mul, in-add, in-zero, in-pow, pow-add, difference}
+use Rattle.rs16.proofs.DualBasis.{element-add, element-zero, element-line-octet, line-octet-octet}
 use Rattle.rs16.proofs.Locators.{root-exp}
 use Rattle.rs16.proofs.Alterations.{all-octets, near-codewords, distance-33}
 

@@ -1,17 +1,16 @@
 -- The field's laws and the bench values, as the public theorems state them.
-use mathlib.Core.Path.{_≡_, refl, ap, sym, _∙_}
+use mathlib.Core.Path.{_≡_, refl, sym, _∙_}
 use mathlib.Core.List.{List}
-use Prim.Native.Nat.{ℕ, zero, suc, _+_, _*_, _<_, _≤_}
+use Prim.Native.Nat.{ℕ, zero, suc, _*_, _<_}
 use native.Mathlib.Omega.{arith}
-use lib.ListN.{length, getD, take, replicate}
-use Rattle.std.proofs.shelf.Lists.{getD-past, length-replicate, take-replicate}
-use Rattle.octets.specs.Octets.{Octets}
+use lib.ListN.{length, getD, replicate}
+use Rattle.std.proofs.shelf.Lists.{length-replicate, take-replicate}
 use Rattle.octets.specs.Words.{wordLength, wordPlace, wordOf}
-use Rattle.octets.proofs.Words.{row-from-words, word-size, word-at, word-from-places}
+use Rattle.octets.proofs.Words.{row-from-words, word-from-places}
 use Rattle.rs16.specs.Bench.{OfZeroFrame, BenchValues}
-use Rattle.rs16.specs.Codewords.{root, value, syndrome, Codeword}
+use Rattle.rs16.specs.Codewords.{root, syndrome, Codeword}
 use Rattle.rs16.specs.DualBasis.{combine, lineOctet}
-use Rattle.rs16.specs.Field.{_⊕_, _⊗_, IsOctet, mul, mulDigits, timesAlpha, pow, alpha, FieldLaws}
+use Rattle.rs16.specs.Field.{_⊗_, IsOctet, mul, mulDigits, timesAlpha, pow, alpha, FieldLaws}
 use Rattle.rs16.proofs.Arithmetic.{inv, inv-octet, mul-inv}
 use Rattle.rs16.proofs.Powers.{log, exp-distinct, log-lt, log-power, pow-exp}
 use Rattle.rs16.proofs.Polynomials.{add-assoc, add-comm, add-zero, add-self, in-add, in-mul, mul-assoc, mul-comm, mul-one, mul-add}

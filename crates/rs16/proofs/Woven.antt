@@ -1,14 +1,14 @@
 -- A word read out of a row, and check octets written into it: the steps of both loops.
-use mathlib.Core.Path.{_≡_, refl, ap, ap₂, sym, _∙_, subst}
+use mathlib.Core.Path.{_≡_, ap, ap₂, sym, _∙_, subst}
 use mathlib.Core.List.{List, _++_}
-use mathlib.Core.Logic.{_⊎_, inl, inr}
-use Prim.Native.Nat.{ℕ, _+_, _-_, _*_, _≤_, _<_}
+use mathlib.Core.Logic.{inl, inr}
+use Prim.Native.Nat.{ℕ, _+_, _-_, _*_, _<_}
 use native.Mathlib.Omega.{arith}
 use lib.ListN.{length, getD, set, take}
 use Rattle.std.proofs.shelf.Lists.{ext-getD, getD-append-left, getD-append-right, getD-take, length-append, length-take-le}
 use Rattle.std.proofs.shelf.Tests.{cases-eq, cases-lt}
 use Rattle.octets.specs.Words.{wordLength, wordPlace, wordOf, KeepsOthers}
-use Rattle.octets.proofs.Words.{keeps-set, place-below, place-next, set-at-place, set-at-other-place, word-at, word-size}
+use Rattle.octets.proofs.Words.{keeps-set, place-below, set-at-place, set-at-other-place, word-at, word-size}
 
 -- what the loop over the check octets keeps, at octet k of them: those before the check octets, those written, and other words
 pub record Stored (depth w k : ℕ) (checks before row : List ℕ) : Type 0 where

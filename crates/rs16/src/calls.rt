@@ -1,8 +1,6 @@
 // The calls of rs16 on a word of a row.
 ghost use mathlib.Core.Path.{_≡_};
-ghost use mathlib.Core.List.{List};
-ghost use Prim.Native.Nat.{ℕ, _<_};
-ghost use lib.ListN.{length};
+ghost use Prim.Native.Nat.{_<_};
 ghost use Rattle.octets.specs.Counting.{tabulate};
 ghost use Rattle.octets.specs.Words.{wordOf};
 ghost use Rattle.code.specs.Calls.{Encodes};

@@ -1,9 +1,9 @@
-use mathlib.Core.Path.{_≡_, refl, sym, ap, _∙_, subst}
+use mathlib.Core.Path.{_≡_, sym, _∙_, subst}
 use mathlib.Core.List.{List}
-use Prim.Native.Nat.{ℕ, _+_, _<_}
+use Prim.Native.Nat.{ℕ, _+_}
 use native.Mathlib.Omega.{arith}
 use lib.ListN.{length, getD, drop, replicate}
-use Rattle.rs16.specs.Division.{divideStep, remainder, checks}
+use Rattle.rs16.specs.Division.{remainder, checks}
 use Rattle.rs16.proofs.Remainders.{divide-step-length}
 use Rattle.rs16.proofs.Steps.{remainder-more, remainder-all}
 use Rattle.rs16.proofs.division.checks_of.Needs as need

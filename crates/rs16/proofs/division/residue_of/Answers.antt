@@ -1,9 +1,8 @@
-use mathlib.Core.Path.{_≡_, refl, sym, ap, _∙_}
+use mathlib.Core.Path.{ap, _∙_}
 use mathlib.Core.List.{List}
-use Prim.Native.Nat.{ℕ, _+_, _<_}
+use Prim.Native.Nat.{ℕ, _+_}
 use native.Mathlib.Omega.{arith}
-use lib.ListN.{length, getD, take}
-use Rattle.std.proofs.shelf.Lists.{length-take-le}
+use lib.ListN.{getD}
 use Rattle.rs16.specs.Field.{_⊕_}
 use Rattle.rs16.proofs.Residues.{residue-all}
 use Rattle.rs16.proofs.division.residue_of.Needs as need

@@ -1,7 +1,6 @@
-use borrow.Author.Needs.{needs}
 use mathlib.Core.Path.{_≡_, sym, ap, ap₂, _∙_}
 use mathlib.Core.Logic.{_⊎_, inl, inr}
-use Prim.Native.Nat.{ℕ, _<_}
+use Prim.Native.Nat.{ℕ}
 use Rattle.rs16.specs.Field.{mul, alpha}
 use Rattle.rs16.proofs.Polynomials.{mul-zero, zero-mul, pow-add}
 use Rattle.rs16.proofs.field.product.Needs as need

@@ -3,7 +3,7 @@ use mathlib.Core.Path.{_≡_, refl, ap, sym, _∙_, subst}
 use mathlib.Core.List.{List}
 use Prim.Native.Nat.{ℕ, _+_, _*_, _<_}
 use native.Mathlib.Omega.{arith}
-use lib.ListN.{length, getD, set}
+use lib.ListN.{getD, set}
 use Rattle.octets.specs.Words.{wordPlace}
 use Rattle.octets.proofs.Words.{keeps-self, place-below, place-next}
 use Rattle.rs16.proofs.Woven.{Stored, stored-more, stored-all}

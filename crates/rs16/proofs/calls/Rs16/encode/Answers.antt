@@ -1,6 +1,4 @@
-use mathlib.Core.Path.{_≡_, ap, sym, _∙_}
-use mathlib.Core.List.{List}
-use Prim.Native.Nat.{ℕ}
+use mathlib.Core.Path.{ap, _∙_}
 use lib.ListN.{take}
 use Rattle.code.proofs.Passed.{passed-size, passed-word}
 use Rattle.rs16.specs.Division.{checks}
