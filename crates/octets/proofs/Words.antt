@@ -109,7 +109,3 @@ set-at-other-place depth w i j v row hw ne = getD-set-other row (wordPlace depth
       | inr (inl lt) ↦ place-once depth w i j hw lt e
       | inr (inr gt) ↦ place-once depth w j i hw gt (sym e)
     ]
-
--- a row that keeps the others of a row has its length in words
-pub keeps-size : (depth w n : ℕ) (a b : List ℕ) → KeepsOthers depth w a b → length a ≡ n → length b ≡ n
-keeps-size depth w n a b h l = h .size ∙ l

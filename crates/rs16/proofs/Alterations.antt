@@ -21,7 +21,7 @@ use Rattle.rs16.specs.Codewords.{value, root, syndrome, Codeword}
 use Rattle.rs16.proofs.Arithmetic.{interchange}
 use Rattle.rs16.proofs.DualBasis.{element-octet, same-octet}
 use Rattle.rs16.proofs.Locators.{locator, locator-distinct, locator-octet, weight, weight-octet, weight-not-zero, weight-zero, weight-in-syndrome}
-use Rattle.rs16.proofs.Polynomials.{add-self, add-mul, zero-mul, in-add, powerSum, Distinct, places, vandermonde}
+use Rattle.rs16.proofs.Polynomials.{add-self, add-mul, zero-mul, octet-add, powerSum, Distinct, places, vandermonde}
 
 -- a test for equal numbers, by its two ways
 pub by-eq : {X : Type 0} (a b : ℕ) (x y : X) (P : X → Type 0) → (a ≡ b → P x) → ((a ≡ b → ⊥) → P y) → P (cond (eqb a b) x y)
@@ -137,7 +137,7 @@ alterations-weighty (x ∷ a) (y ∷ b) ha hb =
     (λ n. (
       (
         weight-octet (length a) (element x ⊕ element y),
-        weight-not-zero (length a) (element x ⊕ element y) (in-add (element x) (element y) (element-octet x) (element-octet y))
+        weight-not-zero (length a) (element x ⊕ element y) (octet-add (element x) (element y) (element-octet x) (element-octet y))
             (λ e. n (same-octet x y (ha .0) (hb .0) e)),
       ),
       alterations-weighty a b (ha .1) (hb .1),

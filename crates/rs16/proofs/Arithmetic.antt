@@ -36,9 +36,9 @@ double-add b c =
     sym (ap₂ bitXor (sym (add-zero (b * 2))) (sym (add-zero (c * 2))) ∙ xor-block 1 b c 0 0 (lit< tt) (lit< tt)
     ∙ add-zero (bitXor b c * 2))
 
-timesAlpha-add : (b c : ℕ) → timesAlpha (bitXor b c) ≡ bitXor (timesAlpha b) (timesAlpha c)
+times-alpha-add : (b c : ℕ) → timesAlpha (bitXor b c) ≡ bitXor (timesAlpha b) (timesAlpha c)
 unfolding timesAlpha
-timesAlpha-add b c =
+times-alpha-add b c =
     ap₂ bitXor
     (ap (λ x. x % 256) (double-add b c) ∙ xor-mod (b * 2) (c * 2) 8)
     (ap (λ x. x % 2 * 0x87) (xor-shr b c 7) ∙ ap (λ x. x * 0x87) (xor-mod (b / 128) (c / 128) 1)
@@ -59,7 +59,7 @@ unfolding mulDigits
 right-add zero a b c = refl
 right-add (suc n) a b c =
     ap₂ bitXor (digit-add (a % 2) b c (digit a))
-    (ap (mulDigits n (a / 2)) (timesAlpha-add b c) ∙ right-add n (a / 2) (timesAlpha b) (timesAlpha c))
+    (ap (mulDigits n (a / 2)) (times-alpha-add b c) ∙ right-add n (a / 2) (timesAlpha b) (timesAlpha c))
     ∙ interchange (a % 2 * b) (a % 2 * c) (mulDigits n (a / 2) (timesAlpha b)) (mulDigits n (a / 2) (timesAlpha c))
 
 pub mul-add-left : (a c b : ℕ) → mul (bitXor a c) b ≡ bitXor (mul a b) (mul c b)
@@ -128,18 +128,18 @@ digit-lt zero b h l = rw zero-mul (lit< tt)
 digit-lt (suc zero) b h l = rw one-mul l
 digit-lt (suc (suc x)) b h l = not-digit h
 
-pub timesAlpha-lt : (b : ℕ) → timesAlpha b < 256
+pub times-alpha-octet : (b : ℕ) → timesAlpha b < 256
 unfolding timesAlpha
-timesAlpha-lt b = xor-lt 8 (b * 2 % 256) (b / 128 % 2 * 0x87) (small (b * 2)) (digit-lt (b / 128 % 2) 0x87 (digit (b / 128)) (lit< tt))
+times-alpha-octet b = xor-lt 8 (b * 2 % 256) (b / 128 % 2 * 0x87) (small (b * 2)) (digit-lt (b / 128 % 2) 0x87 (digit (b / 128)) (lit< tt))
 
-mulDigits-lt : (n a b : ℕ) → b < 256 → mulDigits n a b < 256
+mul-digits-octet : (n a b : ℕ) → b < 256 → mulDigits n a b < 256
 unfolding mulDigits
-mulDigits-lt zero a b h = lit< tt
-mulDigits-lt (suc n) a b h = xor-lt 8 (a % 2 * b) (mulDigits n (a / 2) (timesAlpha b)) (digit-lt (a % 2) b (digit a) h) (mulDigits-lt n (a / 2) (timesAlpha b) (timesAlpha-lt b))
+mul-digits-octet zero a b h = lit< tt
+mul-digits-octet (suc n) a b h = xor-lt 8 (a % 2 * b) (mulDigits n (a / 2) (timesAlpha b)) (digit-lt (a % 2) b (digit a) h) (mul-digits-octet n (a / 2) (timesAlpha b) (times-alpha-octet b))
 
 pub mul-lt : (a b : ℕ) → mul a b < 256
 unfolding mul
-mul-lt a b = mulDigits-lt 8 (a % 256) (b % 256) (small b)
+mul-lt a b = mul-digits-octet 8 (a % 256) (b % 256) (small b)
 
 pub mul-one : (a : ℕ) → a < 256 → mul a 1 ≡ a
 mul-one a h = eqb→eq _ _ (below (λ x. eqb (mul x 1) x) 256 (unfold mul mulDigits timesAlpha all in tt) a h)

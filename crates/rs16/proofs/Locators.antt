@@ -8,7 +8,7 @@ use Rattle.rs16.specs.Field.{_⊗_, IsOctet, pow, alpha}
 use Rattle.rs16.specs.Codewords.{root}
 use Rattle.rs16.proofs.Below.{all, below}
 use Rattle.rs16.proofs.Powers.{exp, exp-distinct, exp-mod, exp-not-zero, pow-exp}
-use Rattle.rs16.proofs.Polynomials.{mul-assoc, no-divisors, in-mul, in-pow, pow-add, zero-mul, one-not-zero}
+use Rattle.rs16.proofs.Polynomials.{mul-assoc, no-divisors, octet-mul, octet-pow, pow-add, zero-mul, one-not-zero}
 
 pub pow-pow : (x a b : ℕ) → pow (pow x a) b ≡ pow x (a * b)
 unfolding pow
@@ -42,7 +42,7 @@ locator-distinct i j hi hj e =
 
 pub locator-octet : (k : ℕ) → IsOctet (locator k)
 unfolding locator
-locator-octet k = in-pow (pow alpha 11) k
+locator-octet k = octet-pow (pow alpha 11) k
 
 pub locator-not-zero : (k : ℕ) → ¬ (locator k ≡ 0)
 locator-not-zero k e = exp-not-zero ((11 * k) % 255) (below-255 (11 * k)) (sym (locator-exp k) ∙ e)
@@ -53,7 +53,7 @@ mul-not-zero a b ha hb na nb e = nb (no-divisors a b ha hb na e)
 pub pow-not-zero : (x m : ℕ) → IsOctet x → ¬ (x ≡ 0) → ¬ (pow x m ≡ 0)
 unfolding pow
 pow-not-zero x zero h n = one-not-zero
-pow-not-zero x (suc m) h n = mul-not-zero x (pow x m) h (in-pow x m) n (pow-not-zero x m h n)
+pow-not-zero x (suc m) h n = mul-not-zero x (pow x m) h (octet-pow x m) n (pow-not-zero x m h n)
 
 -- the weight of an element at power k
 unfoldable pub weight : ℕ → ℕ → ℕ
@@ -61,12 +61,12 @@ weight k e = e ⊗ pow (locator k) 112
 
 pub weight-octet : (k e : ℕ) → IsOctet (weight k e)
 unfolding weight
-weight-octet k e = in-mul e (pow (locator k) 112)
+weight-octet k e = octet-mul e (pow (locator k) 112)
 
 pub weight-not-zero : (k e : ℕ) → IsOctet e → ¬ (e ≡ 0) → ¬ (weight k e ≡ 0)
 unfolding weight
 weight-not-zero k e h n =
-    mul-not-zero e (pow (locator k) 112) h (in-pow (locator k) 112) n (pow-not-zero (locator k) 112 (locator-octet k) (locator-not-zero k))
+    mul-not-zero e (pow (locator k) 112) h (octet-pow (locator k) 112) n (pow-not-zero (locator k) 112 (locator-octet k) (locator-not-zero k))
 
 pub weight-zero : (k : ℕ) → weight k 0 ≡ 0
 unfolding weight

@@ -90,17 +90,17 @@ mul-add = md
 pub mul-one : (a : ℕ) → IsOctet a → a ⊗ 1 ≡ a
 mul-one = m1
 
-pub in-zero : IsOctet 0
-in-zero = lit< tt
+pub octet-zero : IsOctet 0
+octet-zero = lit< tt
 
-pub in-one : IsOctet 1
-in-one = lit< tt
+pub octet-one : IsOctet 1
+octet-one = lit< tt
 
-pub in-add : (a b : ℕ) → IsOctet a → IsOctet b → IsOctet (a ⊕ b)
-in-add a b h l = xor-lt 8 a b h l
+pub octet-add : (a b : ℕ) → IsOctet a → IsOctet b → IsOctet (a ⊕ b)
+octet-add a b h l = xor-lt 8 a b h l
 
-pub in-mul : (a b : ℕ) → IsOctet (a ⊗ b)
-in-mul = mul-lt
+pub octet-mul : (a b : ℕ) → IsOctet (a ⊗ b)
+octet-mul = mul-lt
 
 pub one-not-zero : ¬ (_≡_ {A = ℕ} 1 0)
 one-not-zero e = omega arith
@@ -144,7 +144,7 @@ apply-add [] S R = sym (add-self 0)
 apply-add (c ∷ p) S R = rw (apply-add p (λ m. S (suc m)) (λ m. R (suc m))) (simp ring)
 
 product-one : (a b : ℕ) → a ⊗ (b ⊗ 1) ≡ a ⊗ b
-product-one a b = sym (mul-assoc a b 1) ∙ mul-one (a ⊗ b) (in-mul a b)
+product-one a b = sym (mul-assoc a b 1) ∙ mul-one (a ⊗ b) (octet-mul a b)
 
 -- Σ p_m E X^m = E p(X)
 pub apply-powers : (p : List ℕ) (x e : ℕ) → apply p (λ m. e ⊗ pow x m) ≡ e ⊗ eval p x
@@ -168,40 +168,40 @@ unfolding carry eval
 eval-carry x c [] y = simp ring
 eval-carry x c (d ∷ p) y = rw (eval-carry x d p y) (simp ring)
 
-pub eval-mulLinear : (x : ℕ) (p : List ℕ) (y : ℕ) → eval (mulLinear x p) y ≡ (y ⊕ x) ⊗ eval p y
+pub eval-mul-linear : (x : ℕ) (p : List ℕ) (y : ℕ) → eval (mulLinear x p) y ≡ (y ⊕ x) ⊗ eval p y
 unfolding mulLinear
-eval-mulLinear x p y = eval-carry x 0 p y ∙ zero-add ((y ⊕ x) ⊗ eval p y)
+eval-mul-linear x p y = eval-carry x 0 p y ∙ zero-add ((y ⊕ x) ⊗ eval p y)
 
 -- ---- a product of linear factors
 pub at-root : (xs : List ℕ) (y : ℕ) → Member y xs → eval (fromRoots xs) y ≡ 0
 unfolding fromRoots
 at-root [] y m = absurd m
-at-root (x ∷ xs) y (inl e) = eval-mulLinear x (fromRoots xs) y ∙ rw e (simp ring)
-at-root (x ∷ xs) y (inr m) = eval-mulLinear x (fromRoots xs) y ∙ rw (at-root xs y m) (simp ring)
+at-root (x ∷ xs) y (inl e) = eval-mul-linear x (fromRoots xs) y ∙ rw e (simp ring)
+at-root (x ∷ xs) y (inr m) = eval-mul-linear x (fromRoots xs) y ∙ rw (at-root xs y m) (simp ring)
 
 pub difference : (a b : ℕ) → a ⊕ b ≡ 0 → a ≡ b
 difference a b e = sym (add-zero a) ∙ ap (λ x. a ⊕ x) (sym (add-self b)) ∙ sym (add-assoc a b b) ∙ rw e (zero-add b)
 
-pub in-eval : (p : List ℕ) (y : ℕ) → All IsOctet p → IsOctet (eval p y)
+pub octet-eval : (p : List ℕ) (y : ℕ) → All IsOctet p → IsOctet (eval p y)
 unfolding eval
-in-eval [] y h = in-zero
-in-eval (c ∷ p) y h = in-add c (y ⊗ eval p y) (h .0) (in-mul y (eval p y))
+octet-eval [] y h = octet-zero
+octet-eval (c ∷ p) y h = octet-add c (y ⊗ eval p y) (h .0) (octet-mul y (eval p y))
 
 -- a value of the product is an element, whatever its roots are
-pub in-roots : (xs : List ℕ) (y : ℕ) → IsOctet (eval (fromRoots xs) y)
+pub octet-roots : (xs : List ℕ) (y : ℕ) → IsOctet (eval (fromRoots xs) y)
 unfolding fromRoots eval
-in-roots [] y = in-add 1 (y ⊗ 0) in-one (in-mul y 0)
-in-roots (x ∷ xs) y =
-    subst IsOctet (sym (eval-mulLinear x (fromRoots xs) y)) (in-mul (y ⊕ x) (eval (fromRoots xs) y))
+octet-roots [] y = octet-add 1 (y ⊗ 0) octet-one (octet-mul y 0)
+octet-roots (x ∷ xs) y =
+    subst IsOctet (sym (eval-mul-linear x (fromRoots xs) y)) (octet-mul (y ⊕ x) (eval (fromRoots xs) y))
 
 pub off-roots : (xs : List ℕ) (y : ℕ) → IsOctet y → All IsOctet xs → All (λ x. ¬ (y ≡ x)) xs → ¬ (eval (fromRoots xs) y ≡ 0)
 unfolding fromRoots eval
 off-roots [] y hy hx n e = one-not-zero (sym (add-zero 1) ∙ ap (λ z. 1 ⊕ z) (sym (mul-zero y)) ∙ e)
 off-roots (x ∷ xs) y hy hx n e =
     off-roots xs y hy (hx .1) (n .1)
-    (no-divisors (y ⊕ x) (eval (fromRoots xs) y) (in-add y x hy (hx .0)) (in-roots xs y)
+    (no-divisors (y ⊕ x) (eval (fromRoots xs) y) (octet-add y x hy (hx .0)) (octet-roots xs y)
     (λ z. n .0 (difference y x z))
-    (sym (eval-mulLinear x (fromRoots xs) y) ∙ e))
+    (sym (eval-mul-linear x (fromRoots xs) y) ∙ e))
 
 -- ---- division by z + x
 divide-more : (x : ℕ) (p : List ℕ) (y : ℕ) → y ⊗ eval p y ≡ (y ⊕ x) ⊗ eval (horner x p) y ⊕ x ⊗ eval p x
@@ -236,16 +236,16 @@ unfolding horner
 length-horner x [] = refl
 length-horner x (c ∷ p) = ap suc (length-horner x p)
 
-in-horner : (x : ℕ) (p : List ℕ) → All IsOctet p → All IsOctet (horner x p)
+octets-horner : (x : ℕ) (p : List ℕ) → All IsOctet p → All IsOctet (horner x p)
 unfolding horner
-in-horner x [] h = tt
-in-horner x (c ∷ p) h = (in-eval (c ∷ p) x h, in-horner x p (h .1))
+octets-horner x [] h = tt
+octets-horner x (c ∷ p) h = (octet-eval (c ∷ p) x h, octets-horner x p (h .1))
 
 -- the other roots of p are roots of the quotient
 other-root : (r c : ℕ) (p : List ℕ) (s : ℕ) → IsOctet r → IsOctet s → All IsOctet p → ¬ (s ≡ r) → eval (c ∷ p) r ≡ 0 → eval (c ∷ p) s ≡ 0
     → eval (horner r p) s ≡ 0
 other-root r c p s hr hs hp n er es =
-    no-divisors (s ⊕ r) (eval (horner r p) s) (in-add s r hs hr) (in-eval (horner r p) s (in-horner r p hp))
+    no-divisors (s ⊕ r) (eval (horner r p) s) (octet-add s r hs hr) (octet-eval (horner r p) s (octets-horner r p hp))
     (λ z. n (difference s r z))
     (sym (add-zero ((s ⊕ r) ⊗ eval (horner r p) s)) ∙ ap (λ z. (s ⊕ r) ⊗ eval (horner r p) s ⊕ z) (sym er)
     ∙ sym (divide r c p s) ∙ es)
@@ -262,7 +262,7 @@ few-roots rs [] hr hp d e l = tt
 few-roots [] (c ∷ p) hr hp d e l = absurd (not-suc-le-zero l)
 few-roots (r ∷ rs) (c ∷ p) hr hp d e l =
     let q : All (λ c. c ≡ 0) (horner r p) =
-    few-roots rs (horner r p) (hr .1) (in-horner r p (hp .1)) (d .1)
+    few-roots rs (horner r p) (hr .1) (octets-horner r p (hp .1)) (d .1)
     (other-roots r c p rs (hr .0) (hr .1) (hp .1) (d .0) (e .0) (e .1))
     (subst (λ n. n ≤ length rs) (sym (length-horner r p)) (le-of-suc-le-suc l)) in
     let rest : All (λ c. c ≡ 0) p = horner-zeros r p q in
@@ -304,7 +304,7 @@ first-weight : (t : ℕ × ℕ) (ts : List (ℕ × ℕ)) → IsOctet (t .0) → 
     → weighed (t ∷ ts) (fromRoots (places ts)) ≡ 0 → t .1 ≡ 0
 unfolding weighed
 first-weight t ts hx he hs n w =
-    no-divisors (eval (fromRoots (places ts)) (t .0)) (t .1) (in-roots (places ts) (t .0)) he
+    no-divisors (eval (fromRoots (places ts)) (t .0)) (t .1) (octet-roots (places ts) (t .0)) he
     (off-roots (places ts) (t .0) hx hs n)
     (mul-comm (eval (fromRoots (places ts)) (t .0)) (t .1) ∙ sym (add-zero (t .1 ⊗ eval (fromRoots (places ts)) (t .0)))
     ∙ ap (λ z. t .1 ⊗ eval (fromRoots (places ts)) (t .0) ⊕ z)
@@ -336,22 +336,22 @@ vandermonde (t ∷ ts) he hx d s =
     (first, vandermonde ts (he .1) (hx .1) (d .1) (λ m l. drop-first t ts m first (s m (le-trans l (le-suc (length ts))))))
 
 -- ---- powers, shifted sums
-pub in-pow : (x : ℕ) (m : ℕ) → IsOctet (pow x m)
+pub octet-pow : (x : ℕ) (m : ℕ) → IsOctet (pow x m)
 unfolding pow
-in-pow x zero = in-one
-in-pow x (suc m) = in-mul x (pow x m)
+octet-pow x zero = octet-one
+octet-pow x (suc m) = octet-mul x (pow x m)
 
 pub one-mul : (a : ℕ) → IsOctet a → 1 ⊗ a ≡ a
 one-mul a h = mul-comm 1 a ∙ mul-one a h
 
 pub pow-add : (x : ℕ) (i m : ℕ) → pow x (i + m) ≡ pow x i ⊗ pow x m
 unfolding pow
-pow-add x zero m = ap (pow x) (zero-plus m) ∙ sym (one-mul (pow x m) (in-pow x m))
+pow-add x zero m = ap (pow x) (zero-plus m) ∙ sym (one-mul (pow x m) (octet-pow x m))
 pow-add x (suc i) m = ap (pow x) (suc-add i m) ∙ ap (λ z. x ⊗ z) (pow-add x i m) ∙ sym (mul-assoc x (pow x i) (pow x m))
 
 pub pow-mul : (x y : ℕ) (i : ℕ) → pow (x ⊗ y) i ≡ pow x i ⊗ pow y i
 unfolding pow
-pow-mul x y zero = sym (mul-one 1 in-one)
+pow-mul x y zero = sym (mul-one 1 octet-one)
 pow-mul x y (suc i) = ap (λ z. x ⊗ y ⊗ z) (pow-mul x y i) ∙ simp ring
 
 abbrev pub through : List ℕ → List (ℕ × ℕ) → List (ℕ × ℕ)
@@ -378,21 +378,21 @@ length-through : (p : List ℕ) (ts : List (ℕ × ℕ)) → length (through p t
 length-through p [] = refl
 length-through p (t ∷ ts) = ap suc (length-through p ts)
 
-in-through : (p : List ℕ) (ts : List (ℕ × ℕ)) → All (λ t. IsOctet (t .1)) (through p ts)
-in-through p [] = tt
-in-through p (t ∷ ts) = (in-mul (t .1) (eval p (t .0)), in-through p ts)
+octets-through : (p : List ℕ) (ts : List (ℕ × ℕ)) → All (λ t. IsOctet (t .1)) (through p ts)
+octets-through p [] = tt
+octets-through p (t ∷ ts) = (octet-mul (t .1) (eval p (t .0)), octets-through p ts)
 
 cancelled : (p : List ℕ) (ts : List (ℕ × ℕ)) → All IsOctet p → All (λ t. IsOctet (t .1) × ¬ (t .1 ≡ 0)) ts
     → All (λ t. t .1 ≡ 0) (through p ts) → All (λ t. eval p (t .0) ≡ 0) ts
 cancelled p [] hp he z = tt
 cancelled p (t ∷ ts) hp he z =
-    (no-divisors (t .1) (eval p (t .0)) (he .0 .0) (in-eval p (t .0) hp) (he .0 .1) (z .0), cancelled p ts hp (he .1) (z .1))
+    (no-divisors (t .1) (eval p (t .0)) (he .0 .0) (octet-eval p (t .0) hp) (he .0 .1) (z .0), cancelled p ts hp (he .1) (z .1))
 
 -- ℕ polynomial that gives 0 on as many windows of the sequence as there are places vanishes at each place.
 pub locates : (p : List ℕ) (ts : List (ℕ × ℕ)) → All IsOctet p → All (λ t. IsOctet (t .1) × ¬ (t .1 ≡ 0)) ts → All IsOctet (places ts) → Distinct (places ts)
     → ((i : ℕ) → i < length ts → apply p (λ m. powerSum ts (i + m)) ≡ 0) → All (λ t. eval p (t .0) ≡ 0) ts
 locates p ts hp he hx d s =
     cancelled p ts hp he
-    (vandermonde (through p ts) (in-through p ts)
+    (vandermonde (through p ts) (octets-through p ts)
     (subst (All IsOctet) (sym (places-through p ts)) hx) (subst Distinct (sym (places-through p ts)) d)
     (λ i l. sym (apply-shifted p ts i) ∙ s i (subst (λ n. i < n) (length-through p ts) l)))

@@ -19,7 +19,7 @@ use Rattle.rs16.specs.Codewords.{value, root, syndrome, Codeword, rs16}
 use Rattle.rs16.specs.Division.{generator, multiple, plusMultiple, divideStep, remainder, checks}
 use Rattle.rs16.proofs.Below.{all, below}
 use Rattle.rs16.proofs.Powers.{exp}
-use Rattle.rs16.proofs.Polynomials.{ring, add-zero, add-self, zero-mul, mul-one, one-mul, in-mul, in-add, in-zero, in-pow, pow-add, difference}
+use Rattle.rs16.proofs.Polynomials.{ring, add-zero, add-self, zero-mul, mul-one, one-mul, octet-mul, octet-add, octet-zero, octet-pow, pow-add, difference}
 use Rattle.rs16.proofs.DualBasis.{element-add, element-zero, element-line-octet, line-octet-octet}
 use Rattle.rs16.proofs.Locators.{root-exp}
 use Rattle.rs16.proofs.Alterations.{all-octets, near-codewords, distance-33}
@@ -30,8 +30,8 @@ pow-suc x k = refl
 
 pub value-octet : (w : List ℕ) (x : ℕ) → IsOctet (value w x)
 unfolding value
-value-octet [] x = in-zero
-value-octet (o ∷ w) x = in-add (element o ⊗ pow x (length w)) (value w x) (in-mul (element o) (pow x (length w))) (value-octet w x)
+value-octet [] x = octet-zero
+value-octet (o ∷ w) x = octet-add (element o ⊗ pow x (length w)) (value w x) (octet-mul (element o) (pow x (length w))) (value-octet w x)
 
 value-cons : (o : ℕ) (w : List ℕ) (x : ℕ) → element o ⊗ pow x (length w) ⊕ value w x ≡ value (o ∷ w) x
 unfolding value
@@ -56,7 +56,7 @@ nested-worth : (a : ℕ) (g : List ℕ) (x : ℕ) → IsOctet a → All IsOctet 
 unfolding nested worth pow
 nested-worth a [] x ha hg = sym (mul-one a ha) ∙ sym (add-zero (a ⊗ 1))
 nested-worth a (c ∷ g) x ha hg =
-    nested-worth (a ⊗ x ⊕ c) g x (in-add (a ⊗ x) c (in-mul a x) (hg .0)) (hg .1) ∙ step-nested a c x (pow x (length g)) (worth g x)
+    nested-worth (a ⊗ x ⊕ c) g x (octet-add (a ⊗ x) c (octet-mul a x) (hg .0)) (hg .1) ∙ step-nested a c x (pow x (length g)) (worth g x)
 
 -- the generator is 0 at each root
 roots-test : T (all (λ m. eqb (nested 1 generator (exp ((11 * (112 + m)) % 255))) 0) 32)
@@ -79,7 +79,7 @@ generator-root m l =
     ap (nested 1 generator) (sym (root-exp m)) ∙ eqb→eq _ _ (below (λ m. eqb (nested 1 generator (exp ((11 * (112 + m)) % 255))) 0) 32 roots-test m l) in
     let sum : 1 ⊗ pow x 32 ⊕ worth generator x ≡ 0 =
     ap (λ n. 1 ⊗ pow x n ⊕ worth generator x) (sym generator-length) ∙ sym (nested-worth 1 generator x (lit< tt) generator-octets) ∙ zero-there in
-    sym (sym (one-mul (pow x 32) (in-pow x 32)) ∙ difference (1 ⊗ pow x 32) (worth generator x) sum)
+    sym (sym (one-mul (pow x 32) (octet-pow x 32)) ∙ difference (1 ⊗ pow x 32) (worth generator x) sum)
 
 -- ---- one step
 
@@ -91,7 +91,7 @@ plus-multiple-length f (c ∷ g) r = ap suc (plus-multiple-length f g (drop 1 r)
 -- the element of a sum with a multiple
 element-multiple : (b f c : ℕ) → element (b ⊕ multiple f c) ≡ element b ⊕ element f ⊗ c
 element-multiple b f c =
-    element-add b (multiple f c) ∙ ap (λ z. element b ⊕ z) (element-line-octet (element f ⊗ c) (in-mul (element f) c))
+    element-add b (multiple f c) ∙ ap (λ z. element b ⊕ z) (element-line-octet (element f ⊗ c) (octet-mul (element f) c))
 
 step-multiple : (b f c x p u v : ℕ) → (b ⊕ f ⊗ c) ⊗ (x ⊗ p) ⊕ (x ⊗ u ⊕ f ⊗ v) ≡ x ⊗ (b ⊗ p ⊕ u) ⊕ f ⊗ (c ⊗ (x ⊗ p) ⊕ v)
 step-multiple b f c x p u v = simp ring
@@ -157,10 +157,10 @@ plus-multiple-octets : (f : ℕ) (g r : List ℕ) → All IsOctet r → All IsOc
 unfolding plusMultiple
 plus-multiple-octets f [] r h = tt
 plus-multiple-octets f (c ∷ g) r h =
-    (in-add (getD r 0 0) (multiple f c) (at r 0 h) (line-octet-octet (element f ⊗ c)), plus-multiple-octets f g (drop 1 r) (all-drop IsOctet 1 r h))
+    (octet-add (getD r 0 0) (multiple f c) (at r 0 h) (line-octet-octet (element f ⊗ c)), plus-multiple-octets f g (drop 1 r) (all-drop IsOctet 1 r h))
   where
     at : (r : List ℕ) (k : ℕ) → All IsOctet r → IsOctet (getD r k 0)
-    at [] k h = in-zero
+    at [] k h = octet-zero
     at (x ∷ r) zero h = h .0
     at (x ∷ r) (suc k) h = at r k (h .1)
 
@@ -172,7 +172,7 @@ remainder-octets r (o ∷ w) h =
 
 zeros-octets : (n : ℕ) → All IsOctet (replicate n 0)
 zeros-octets zero = tt
-zeros-octets (suc n) = (in-zero, zeros-octets n)
+zeros-octets (suc n) = (octet-zero, zeros-octets n)
 
 pub value-zeros : (n x : ℕ) → value (replicate n 0) x ≡ 0
 unfolding value

@@ -13,7 +13,7 @@ use Rattle.rs16.specs.DualBasis.{combine, lineOctet}
 use Rattle.rs16.specs.Field.{_⊗_, IsOctet, mul, mulDigits, timesAlpha, pow, alpha, FieldLaws}
 use Rattle.rs16.proofs.Arithmetic.{inv, inv-octet, mul-inv}
 use Rattle.rs16.proofs.Powers.{log, exp-distinct, log-lt, log-power, pow-exp}
-use Rattle.rs16.proofs.Polynomials.{add-assoc, add-comm, add-zero, add-self, in-add, in-mul, mul-assoc, mul-comm, mul-one, mul-add}
+use Rattle.rs16.proofs.Polynomials.{add-assoc, add-comm, add-zero, add-self, octet-add, octet-mul, mul-assoc, mul-comm, mul-one, mul-add}
 use Rattle.rs16.proofs.Remainders.{one-codeword, value-zeros}
 
 inverse : (a : ℕ) → IsOctet a → (a ≡ 0 → ⊥) → (b : ℕ) × IsOctet b × (a ⊗ b ≡ 1)
@@ -26,12 +26,12 @@ power-of-alpha (suc a) h n = (log (suc a), log-lt a h, log-power (suc a) (omega 
 
 pub field-lawful : FieldLaws
 field-lawful = record {
-  sum-octet = in-add;
+  sum-octet = octet-add;
   sum-assoc = add-assoc;
   sum-comm = add-comm;
   sum-zero = add-zero;
   sum-self = add-self;
-  product-octet = in-mul;
+  product-octet = octet-mul;
   product-assoc = mul-assoc;
   product-comm = mul-comm;
   product-one = mul-one;

@@ -10,7 +10,7 @@ use Rattle.rs16.specs.DualBasis.{element}
 use Rattle.rs16.specs.Codewords.{root, value}
 use Rattle.rs16.proofs.DualBasis.{element-octet}
 use Rattle.rs16.proofs.Locators.{root-power}
-use Rattle.rs16.proofs.Polynomials.{in-add, in-mul}
+use Rattle.rs16.proofs.Polynomials.{octet-add, octet-mul}
 use Rattle.rs16.proofs.Steps.{value-none, value-more, value-all}
 use Rattle.rs16.proofs.calls.value_at.Needs as need
 
@@ -28,7 +28,7 @@ loop-octet-again c =
     ap₂ _⊕_ (c .product .ensures ∙ ap (λ z. s ⊗ z) (c .power-x .ensures ∙ root-power (c .args .m))) (c .element-of .ensures .value) in
     let size : length w ≡ 32 = search needs in
     subst (λ (z : ℕ). IsOctet z × (z ⊗ pow x (length w - (i + 1)) ⊕ value (drop (i + 1) w) x ≡ value w x)) (sym is)
-    (in-add (s ⊗ x) e (in-mul s x) (element-octet (getD w i 0)), value-more w x s i (omega arith) (c .loop-octet .inv .1))
+    (octet-add (s ⊗ x) e (octet-mul s x) (element-octet (getD w i 0)), value-more w x s i (omega arith) (c .loop-octet .inv .1))
 
 pub returns : need.returns
 returns c =
