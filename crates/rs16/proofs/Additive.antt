@@ -1,4 +1,4 @@
--- Two additive functions that agree at the powers 1, 2, 4, … of k digits agree at every number of k digits.
+-- Two additive functions that agree at the powers 1, 2, 4, .. of k digits agree at every number of k digits.
 use mathlib.Core.Path.{_≡_, ap, ap₂, sym, _∙_, subst}
 use Prim.Native.Nat.{ℕ, zero, suc, _*_, _/_, _%_, _<_, _^_}
 use native.Mathlib.Nat.{not-suc-le-zero, le-of-suc-le-suc, one-mul, zero-mul, mod-lt, le-suc, le-refl, le-trans}

@@ -5,6 +5,7 @@ use lib.Bits.{bitXor}
 
 infixl 60 _⊕_
 infixl 70 _⊗_
+-- a number that is an octet, and so an element
 abbrev pub IsOctet : ℕ → Type 0
 IsOctet a = a < 256
 
@@ -25,6 +26,7 @@ mulDigits (suc n) a b = bitXor (a % 2 * b) (mulDigits n (a / 2) (timesAlpha b))
 unfoldable pub mul : ℕ → ℕ → ℕ
 mul a b = mulDigits 8 (a % 256) (b % 256)
 
+-- the product, as an operator
 abbrev pub _⊗_ : ℕ → ℕ → ℕ
 _⊗_ = mul
 
