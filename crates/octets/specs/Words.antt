@@ -11,6 +11,10 @@ use Rattle.octets.specs.Counting.{tabulate}
 abbrev pub wordLength : ℕ
 wordLength = 255
 
+-- the most octets of a word that any code puts right
+abbrev pub maxReach : ℕ
+maxReach = 16
+
 abbrev pub wordPlace : ℕ → ℕ → ℕ → ℕ
 wordPlace depth w j = j * depth + w
 

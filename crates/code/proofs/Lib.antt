@@ -1,0 +1,3 @@
+pub mod EveryWord
+pub mod Passed
+pub mod Reach

@@ -1,0 +1,4 @@
+pub mod Meaning
+pub mod Refusal
+pub mod Calls
+pub mod Bare

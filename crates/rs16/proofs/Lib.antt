@@ -1,0 +1,14 @@
+pub mod Below
+pub mod Additive
+pub mod Arithmetic
+pub mod Powers
+pub mod Polynomials
+pub mod DualBasis
+pub mod Locators
+pub mod Alterations
+pub mod Remainders
+pub mod Theorems
+pub mod Steps
+pub mod Residues
+pub mod Woven
+pub mod Completed

@@ -1,0 +1,6 @@
+pub mod Field
+pub mod DualBasis
+pub mod Codewords
+pub mod Division
+pub mod Calls
+pub mod Bench

@@ -1,0 +1,85 @@
+// The calls of rs16 on a word of a row.
+ghost use mathlib.Core.Path.{_≡_};
+ghost use Prim.Native.Nat.{_<_};
+ghost use Rattle.octets.specs.Counting.{tabulate};
+ghost use Rattle.octets.specs.Words.{wordOf};
+ghost use Rattle.code.specs.Calls.{Encodes};
+ghost use Rattle.code.specs.Refusal.{shapeRefusal};
+ghost use Rattle.rs16.specs.Calls.{SyndromesGiven};
+ghost use Rattle.rs16.specs.Codewords.{rs16, root, value};
+use crate::division::checks_of;
+use crate::division::residue_of;
+use crate::field::element_of;
+use crate::field::power;
+use crate::field::product;
+use crate::weaving::gathered;
+use crate::weaving::store_checks;
+use code::ShapeFault;
+use code::check_shape;
+use octets::below_256;
+
+#[derive(Clone, Copy)]
+pub struct Rs16;
+
+impl Rs16 {
+    // The information octets of a word.
+    pub fn information(&self) -> usize
+        ensures { λ r. ⌜ r ≡ rs16 .information ⌝ }
+    {
+        223
+    }
+
+    // How many altered octets of a word can be put right, whichever they are.
+    pub fn reach(&self) -> usize
+        ensures { λ r. ⌜ r ≡ rs16 .reach ⌝ }
+    {
+        16
+    }
+
+    // Makes a word of the row a codeword by its last 32 octets.
+    // Refused, in this order: 1 the depth is not allowed; 8 the row has not 255 * depth octets, or the word is not below depth.
+    pub fn encode(&self, row: &mut [u8], depth: usize, word: usize) -> Result<(), ShapeFault>
+        ensures { λ r. ⌜ Encodes rs16 depth word (now (row .entry)) r (now (row .exit)) ⌝ }
+    {
+        below_256(row);
+        check_shape(row, depth, word)?;
+        let octets = gathered(row, depth, word);
+        let checks = checks_of(&octets[0..223]);
+        store_checks(row, depth, word, checks);
+        Ok(())
+    }
+
+    // Answers 0 and the thirty-two syndromes of a word of the row, or a refusal's number, as encode's, and zeros.
+    pub fn syndromes(&self, row: &[u8], depth: usize, word: usize) -> (usize, [u8; 32])
+        ensures { λ r. ⌜ SyndromesGiven (shapeRefusal depth word (now (row .entry))) (wordOf depth word (now (row .entry))) (r .0) (r .1) ⌝ }
+    {
+        match check_shape(row, depth, word) {
+            Ok(()) => (0, syndromes_from(residue_of(&gathered(row, depth, word)))),
+            Err(fault) => (fault.number(), [0; 32]),
+        }
+    }
+}
+
+// The value of 32 line octets at root m.
+fn value_at(octets: [u8; 32], m: usize) -> u8
+    requires { ⌜ m < 32 ⌝ }
+    ensures { λ r. ⌜ r ≡ value octets (root m) ⌝ }
+{
+    let x = power(11 * (112 + m) % 255);
+    let mut sum = 0;
+    for octet in &octets {
+        sum = product(sum, x) ^ element_of(*octet);
+    }
+    sum
+}
+
+// The values of 32 line octets at the roots: for the remainder of a word, the word's syndromes.
+fn syndromes_from(residue: [u8; 32]) -> [u8; 32]
+    ensures { λ r. ⌜ r ≡ tabulate 32 (λ m. value residue (root m)) ⌝ }
+{
+    let mut syndromes = [0; 32];
+    for m in 0..32 {
+        syndromes[m] = value_at(residue, m);
+    }
+    syndromes
+}

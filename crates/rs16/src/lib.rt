@@ -1,0 +1,18 @@
+// The code rs16: words of 223 information octets and 32 check octets, with up to 16 altered octets put right.
+// Its definitions stand in specs/: the field, the dual basis of the line octets, and the codewords.
+
+mod calls;
+mod division;
+mod field;
+mod laws;
+mod multiples;
+mod tables;
+mod weaving;
+
+pub use calls::Rs16;
+pub use field::element_of;
+pub use field::line_octet_of;
+pub use field::product;
+pub use laws::bench_values_stand;
+pub use laws::field_is_lawful;
+pub use laws::rs16_is_lawful;

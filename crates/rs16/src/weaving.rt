@@ -1,0 +1,33 @@
+// A word taken out of a row, and check octets put back: octet j of word w is row octet j * depth + w.
+ghost use mathlib.Core.Path.{_≡_};
+ghost use mathlib.Core.List.{_++_};
+ghost use Prim.Native.Nat.{_*_, _<_};
+ghost use lib.ListN.{length, take};
+ghost use Rattle.octets.specs.Words.{wordOf, KeepsOthers};
+
+// A word of the row.
+pub(crate) fn gathered(row: &[u8], depth: usize, word: usize) -> [u8; 255]
+    requires { ⌜ length (now row) ≡ 255 * depth ⌝ ∗ ⌜ word < depth ⌝ }
+    ensures { λ r. ⌜ r ≡ wordOf depth word (now (row .entry)) ⌝ }
+{
+    let mut octets = [0; 255];
+    let mut place = word;
+    for j in 0..255 {
+        octets[j] = row[place];
+        place += depth;
+    }
+    octets
+}
+
+// Puts check octets behind the information octets of a word.
+pub(crate) fn store_checks(row: &mut [u8], depth: usize, word: usize, checks: [u8; 32])
+    requires { ⌜ length (now row) ≡ 255 * depth ⌝ ∗ ⌜ word < depth ⌝ }
+    ensures word { λ _. ⌜ wordOf depth word (now (row .exit)) ≡ take 223 (wordOf depth word (now (row .entry))) ++ checks ⌝ }
+    ensures others { λ _. ⌜ KeepsOthers depth word (now (row .entry)) (now (row .exit)) ⌝ }
+{
+    let mut at = 223 * depth + word;
+    for k in 0..32 {
+        row[at] = checks[k];
+        at += depth;
+    }
+}
