@@ -1,5 +1,8 @@
 -- The figures that are quoted for a link.
 use Prim.Native.Nat.{ℕ, _*_}
+use Rattle.code.specs.Bare.{bare}
+use Rattle.code.specs.Meaning.{CodeMeaning}
+use Rattle.rs16.specs.Codewords.{rs16}
 use Rattle.mapping.specs.Interleaver.{blockOf}
 use Rattle.settings.specs.declared.Settings.{Settings}
 use Rattle.settings.specs.Lengths.{blockLength, resyncLength}
@@ -7,21 +10,16 @@ use Rattle.sheet.specs.declared.form.CodeName.{CodeName}
 use Rattle.sheet.specs.declared.form.CodeName.the-variants.{Rs16, Bare}
 use Rattle.sheet.specs.declared.figures.Quote.{Quote}
 
--- the information octets of a word
-abbrev pub information : CodeName → ℕ
-information Rs16 = 223
-information Bare = 255
-
--- how many altered octets of a word are mended
-abbrev pub reach : CodeName → ℕ
-reach Rs16 = 16
-reach Bare = 0
+-- the code that a name stands for
+abbrev pub meaningOf : CodeName → CodeMeaning
+meaningOf Rs16 = rs16
+meaningOf Bare = bare
 
 -- frame length, block length, the block mapping's fade for the code's reach, resync length
 abbrev pub figuresOf : CodeName → Settings → Quote
 figuresOf code s = record {
-  frame = information code * s .depth;
+  frame = meaningOf code .information * s .depth;
   block = blockLength s;
-  fade = blockOf s .fade (reach code);
+  fade = blockOf s .fade (meaningOf code .reach);
   resync = resyncLength s;
 }

@@ -1,10 +1,14 @@
 // The figures of a quote.
 ghost use mathlib.Core.Path.{_≡_};
-ghost use Rattle.sheet.specs.Figures.{figuresOf, information, reach};
+ghost use Rattle.sheet.specs.Figures.{figuresOf, meaningOf};
 use crate::form::CodeName;
+use code::Bare;
+use code::BareCode;
+use code::Code;
 use mapping::BlockIsMapping;
 use mapping::BlockMapping;
 use mapping::Mapping;
+use rs16::Rs16;
 use settings::Settings;
 
 // What is quoted for a link, in octets.
@@ -23,21 +27,21 @@ pub struct Quote {
 impl CodeName {
     // The information octets of a word.
     pub fn information(&self) -> usize
-        ensures { λ r. ⌜ r ≡ information (now (self .entry)) ⌝ }
+        ensures { λ r. ⌜ r ≡ meaningOf (now (self .entry)) .information ⌝ }
     {
         match *self {
-            CodeName::Rs16 => 223,
-            CodeName::Bare => 255,
+            CodeName::Rs16 => Rs16.information(),
+            CodeName::Bare => Bare.information(),
         }
     }
 
     // How many altered octets of a word the code mends.
     pub fn reach(&self) -> usize
-        ensures { λ r. ⌜ r ≡ reach (now (self .entry)) ⌝ }
+        ensures { λ r. ⌜ r ≡ meaningOf (now (self .entry)) .reach ⌝ }
     {
         match *self {
-            CodeName::Rs16 => 16,
-            CodeName::Bare => 0,
+            CodeName::Rs16 => Rs16.reach(),
+            CodeName::Bare => Bare.reach(),
         }
     }
 }

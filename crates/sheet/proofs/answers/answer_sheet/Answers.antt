@@ -4,6 +4,7 @@ use native.Mathlib.Omega.{arith}
 use lib.ListN.{take}
 use lib.Seq.{take-all}
 use Rattle.std.specs.Of.String.{string-bytes}
+use Rattle.std.proofs.shelf.Results.{made-from-err}
 use Rattle.sheet.specs.Answers.{sheetLimit, lineFeed}
 use Rattle.sheet.proofs.Lines.{completes-none, completes-more, completes-all}
 use Rattle.sheet.proofs.answers.answer_sheet.Needs as need
@@ -28,3 +29,13 @@ loop-rest-again c =
 
 pub returns : need.returns
 returns c = completes-all (take sheetLimit (c .args .sheet .now)) (c .loop-rest .rest .now) (string-bytes (c .loop-rest .answers)) (c .loop-rest .inv) (omega arith)
+
+-- where memory runs out nothing is owed
+pub returns-in-Break-answer : need.returns-in-Break-answer
+returns-in-Break-answer c = made-from-err (c .from-residual .result) _ (c .from-residual .ensures .0)
+
+pub returns-in-Break-push-str : need.returns-in-Break-push-str
+returns-in-Break-push-str c = made-from-err (c .from-residual-in-Break-push-str .result) _ (c .from-residual-in-Break-push-str .ensures .0)
+
+pub returns-in-Break-push : need.returns-in-Break-push
+returns-in-Break-push c = made-from-err (c .from-residual-in-Break-push .result) _ (c .from-residual-in-Break-push .ensures .0)
