@@ -37,10 +37,11 @@ pub symbol-place-fits : (s : Settings) (row column e : ℕ) → row < s .rows �
 symbol-place-fits s row column e hr hc he = omega (arith, symbol-place-lt s row column e hr hc he, block-length-high s)
 
 pub fade-fits : (s : Settings) (t : ℕ) → t ≤ maxReach
-    → t * s .depth / s .symbol * s .rows * s .symbol + t * s .depth % s .symbol ≤ 524288
+    → t * s .depth / s .symbol * s .rows * s .symbol + t * s .depth % s .symbol ≤ 4096 * (maxReach * 8)
 fade-fits s t h =
     let r = ranges s in
-    omega (arith, fade-le (t * s .depth) (s .rows) (s .symbol) (r .rows-low), mul-le (s .rows) (t * s .depth) 4096 128 (r .rows-high) (mul-le t (s .depth) 16 8 h (r .depth-high)))
+    let few = mul-le t (s .depth) maxReach 8 h (r .depth-high) in
+    omega (arith, fade-le (t * s .depth) (s .rows) (s .symbol) (r .rows-low), mul-le (s .rows) (t * s .depth) 4096 (maxReach * 8) (r .rows-high) few)
 
 pub step-high : (step : ℕ) → stepAllowed step ≡ true → step ≤ 255
 step-high step h = grind (arith, tells)
@@ -51,4 +52,5 @@ pub stepped-column-fits : (s : Settings) (step p : ℕ) → step ≤ 255 → p <
 stepped-column-fits s step p hs hp =
     let r = ranges s in
     let row = mod-below (p / s .symbol) (s .rows) (r .rows-low) in
-    omega (arith, block-length-high s, div-le-self p (s .symbol), div-le-self (p / s .symbol) (s .rows), mul-le (p / s .symbol % s .rows) step 4096 255 (omega (arith, r .rows-high)) hs)
+    let turns = mul-le (p / s .symbol % s .rows) step 4096 255 (omega (arith, r .rows-high)) hs in
+    omega (arith, block-length-high s, div-le-self p (s .symbol), div-le-self (p / s .symbol) (s .rows), turns)

@@ -44,7 +44,13 @@ module _ (I N k d : ℕ) (cut : Cut I N k) where
   columns-fill = omega (arith, div-add-mod' (255 * I) k, cut .whole)
 
   pub columns-pos : 0 < 255 * I / k
-  columns-pos = elim (cases-lt 0 (255 * I / k)) [ inl h ↦ h | inr z ↦ absurd (let e : 255 * I / k ≡ 0 = omega arith in let f : 0 * k ≡ 255 * I = rw e at columns-fill in omega (arith, cut .deep)) ]
+  columns-pos = elim (cases-lt 0 (255 * I / k)) [
+    | inl h ↦ h
+    | inr z ↦
+        let none : 255 * I / k ≡ 0 = omega arith in
+        let empty : 0 * k ≡ 255 * I = rw none at columns-fill in
+        absurd (omega (arith, cut .deep))
+  ]
 
   -- a turn, in which each row sends one symbol
   turn-pos : 0 < N * k
@@ -77,7 +83,9 @@ module _ (I N k d : ℕ) (cut : Cut I N k) where
   source-word p =
       let a = p / k / N + p / k % N * d in
       let cols : a / (255 * I / k) * (255 * I / k) + a % (255 * I / k) ≡ a = div-add-mod' a (255 * I / k) in
-      let round : p / k / N * k + p % k + p / k % N * d * k ≡ octetOf p + a / (255 * I / k) * 255 * I = round-row (p / k / N) (p / k % N * d) (p % k) k (255 * I / k) I (a / (255 * I / k)) (a % (255 * I / k)) cols columns-fill in
+      let C = 255 * I / k in
+      let round : p / k / N * k + p % k + p / k % N * d * k ≡ octetOf p + a / C * 255 * I =
+      round-row (p / k / N) (p / k % N * d) (p % k) k C I (a / C) (a % C) cols columns-fill in
       rw (source-octet p, round) (sym (add-mul-mod-self-right (octetOf p) (a / (255 * I / k) * 255) I))
 
   pub source-lt : (p : ℕ) → steppedSource I N k d p < 255 * I * N
@@ -162,8 +170,11 @@ module _ (I N k d : ℕ) (cut : Cut I N k) where
     few a b t h =
         let x = dealt N k r a in let y = dealt N k r (a + b) in
         let run = dealt-run a b in
-        let top : woven (x + t * I) ≡ woven x + t = ap (dealt I 1 w) (let e : x + t * I + r * d * k ≡ x + r * d * k + t * I * 1 = omega arith in e) ∙ dealt-rounds I 1 w (x + r * d * k) t (omega arith) (cut .deep) ∙ omega arith in
-        let up : woven y ≤ woven (x + t * I) = let e : x + t * I + r * d * k ≡ y + r * d * k + (x + t * I - y) = omega arith in rw e (dealt-up I 1 w (y + r * d * k) (x + t * I - y) (omega arith) hw) in
+        let turns : x + t * I + r * d * k ≡ x + r * d * k + t * I * 1 = omega arith in
+        let top : woven (x + t * I) ≡ woven x + t =
+        ap (dealt I 1 w) turns ∙ dealt-rounds I 1 w (x + r * d * k) t (omega arith) (cut .deep) ∙ omega arith in
+        let more : x + t * I + r * d * k ≡ y + r * d * k + (x + t * I - y) = omega arith in
+        let up : woven y ≤ woven (x + t * I) = rw more (dealt-up I 1 w (y + r * d * k) (x + t * I - y) (omega arith) hw) in
         omega (arith, tally a b, top, up)
 
     -- no run holds more of one word than it costs
@@ -225,7 +236,10 @@ module _ (I N k d : ℕ) (cut : Cut I N k) where
   unfolding symbolFade
   fade-within t h =
       let m = t * I / k in let q = t * I % k in
-      omega (arith, ap (λ n. N * n) (div-add-mod' (t * I) k), mul-le 1 q N q (cut .some) (le-refl q), mul-le t (I * N) maxReach (I * N) h (le-refl (I * N)), mul-le 1 1 I N (cut .deep) (cut .some))
+      let parts = ap (λ n. N * n) (div-add-mod' (t * I) k) in
+      let rest = mul-le 1 q N q (cut .some) (le-refl q) in
+      let far = mul-le t (I * N) maxReach (I * N) h (le-refl (I * N)) in
+      omega (arith, parts, rest, far, mul-le 1 1 I N (cut .deep) (cut .some))
 
   pub stepped-laws : MappingLaws (stepped I N k d)
   stepped-laws = record {

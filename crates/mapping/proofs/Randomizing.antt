@@ -1,17 +1,19 @@
 -- Stretches under the randomizer, from those of the mapping below.
-use mathlib.Core.Path.{_≡_, ap, sym, _∙_}
+use mathlib.Core.Path.{_≡_, refl, ap, ap₂, sym, _∙_}
 use mathlib.Core.List.{List}
 use mathlib.Core.Logic.{inl, inr}
-use Prim.Native.Nat.{ℕ, _+_, _-_, _≤_, _<_}
+use Prim.Native.Nat.{ℕ, _+_, _-_, _%_, _≤_, _<_}
 use native.Mathlib.Omega.{arith}
 use lib.Bits.{bitXor, xor-assoc, xor-comm}
-use lib.ListN.{length, getD, take, drop}
+use lib.ListN.{length, getD, set, take, drop, length-set}
+use lib.Seq.{getD-set-same, getD-set-other}
 use Rattle.std.proofs.shelf.Lists.{getD-take, getD-drop, length-take}
-use Rattle.std.proofs.shelf.Tests.{cases-lt}
+use Rattle.std.proofs.shelf.Tests.{cases-lt, cases-eq}
 use Rattle.mapping.specs.Bulk.{stretch, LineWritten, LineStored}
 use Rattle.mapping.specs.Meaning.{MappingMeaning, blockSize}
-use Rattle.mapping.specs.Randomizer.{sequence, randomized, SequenceAdded, RandomizedPart}
-use Rattle.mapping.proofs.Stretching.{Stored}
+use Rattle.mapping.specs.Randomizer.{sequence, randomized, RunAdded, SequenceAdded, RandomizedPart}
+use Rattle.mapping.proofs.Digits.{sequence-mod}
+use Rattle.mapping.proofs.Stretching.{Filled, Stored}
 
 -- the line of the mapping below with the sequence added is the line under the randomizer
 pub written-randomized : (m : MappingMeaning) (memory before mid after : List ℕ) (start taken : ℕ)
@@ -94,3 +96,41 @@ stored-randomized m line before after start taken taken-is done = record {
   stored = done .stored;
   kept = done .kept;
 }
+
+-- no octet has the sequence added yet
+pub run-none : (at turn : ℕ) (xs : List ℕ) → RunAdded at at turn xs xs
+run-none at turn xs = record { size = refl; added = λ i low high. absurd (omega arith); kept = λ i out. refl }
+
+-- one octet more
+pub run-more : (at end turn : ℕ) (before after : List ℕ) (v : ℕ) → RunAdded at end turn before after → at ≤ end → end < length before
+    → v ≡ bitXor (getD before end 0) (sequence (turn + (end - at))) → RunAdded at (end + 1) turn before (set after end v)
+run-more at end turn before after v done some room is =
+    let room′ : end < length after = omega (arith, done .size) in
+    record {
+      size = length-set after end v ∙ done .size;
+      added = λ i low high. elim (cases-eq i end) [
+        | inl same ↦ rw same (getD-set-same after end v 0 room′ ∙ is)
+        | inr other ↦ getD-set-other after end i v 0 other ∙ done .added i low (omega arith)
+      ];
+      kept = λ i out. elim out [
+        | inl first ↦ getD-set-other after end i v 0 (λ same. omega arith) ∙ done .kept i (inl first)
+        | inr last ↦ getD-set-other after end i v 0 (λ same. omega arith) ∙ done .kept i (inr (omega arith))
+      ];
+    }
+
+-- the octets with the sequence added, and a run behind them
+pub added-join : (start at end turn : ℕ) (before mid after : List ℕ) → turn ≡ (start + at) % 255 → at ≤ end
+    → Filled (λ j. bitXor (getD before j 0) (sequence (start + j))) before mid at → RunAdded at end turn mid after
+    → Filled (λ j. bitXor (getD before j 0) (sequence (start + j))) before after end
+added-join start at end turn before mid after turn-is some old run =
+    let round : (i : ℕ) → at ≤ i → sequence (turn + (i - at)) ≡ sequence (start + i) = λ i low.
+    let e : (turn + (i - at)) % 255 ≡ (start + i) % 255 = omega (arith, turn-is) in
+    sequence-mod (turn + (i - at)) ∙ ap sequence e ∙ sym (sequence-mod (start + i)) in
+    record {
+      size = run .size ∙ old .size;
+      written = λ i l. elim (cases-lt i at) [
+        | inl first ↦ run .kept i (inl first) ∙ old .written i first
+        | inr last ↦ run .added i last l ∙ ap₂ (λ a b. bitXor a b) (old .kept i last) (round i last)
+      ];
+      kept = λ i l. run .kept i (inr l) ∙ old .kept i (omega arith);
+    }

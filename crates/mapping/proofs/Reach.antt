@@ -51,7 +51,8 @@ pub altered-within : (m : MappingMeaning) → MappingLaws m → (r w start n : �
 altered-within m laws r w start n hr hw sent got same =
     let here = memoryWord (m .depth) r w sent in
     let there = memoryWord (m .depth) r w got in
-    let alike : (p j : ℕ) → j < wordLength → getD got (m .source p) 0 ≡ getD sent (m .source p) 0 → m .source p ≡ octetPlace (m .depth) r w j → differs here there j ≡ true → ⊥ =
+    let alike : (p j : ℕ) → j < wordLength → getD got (m .source p) 0 ≡ getD sent (m .source p) 0
+    → m .source p ≡ octetPlace (m .depth) r w j → differs here there j ≡ true → ⊥ =
     λ p j hj e from.
     let e-at : getD sent (octetPlace (m .depth) r w j) 0 ≡ getD got (octetPlace (m .depth) r w j) 0 =
     ap (λ q. getD sent q 0) (sym from) ∙ sym e ∙ ap (λ q. getD got q 0) from in

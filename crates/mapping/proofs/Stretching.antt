@@ -25,7 +25,8 @@ use Rattle.mapping.proofs.Bounds.{cut-of}
 use Rattle.mapping.proofs.Laws.{block-source-is}
 
 -- what a value told for a place says
-pub told : (m : MappingMeaning) (f : ℕ → ℕ) (p v : ℕ) (r : Result ℕ MappingFault) → r ≡ Ok v → r ≡ placeAnswer m f p → (p < blockSize m) × (v ≡ f p)
+pub told : (m : MappingMeaning) (f : ℕ → ℕ) (p v : ℕ) (r : Result ℕ MappingFault)
+    → r ≡ Ok v → r ≡ placeAnswer m f p → (p < blockSize m) × (v ≡ f p)
 told m f p v r was e = elim (cases-bool (ltb p (blockSize m))) [
   | inl below ↦ let same : r ≡ Ok (f p) = rw below at e in (ltb-true p (blockSize m) below, (cc))
   | inr past ↦

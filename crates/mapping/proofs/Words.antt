@@ -23,7 +23,9 @@ octet-place-lt depth rows r w j hr hw hj = mul-add-lt r (255 * depth) (wordPlace
 pub octet-place-of : (depth r w j : ℕ) → w < depth → j < wordLength → ofRowWord depth r w (octetPlace depth r w j) ≡ true
 octet-place-of depth r w j hw hj =
     let low = word-place-lt depth w j hw hj in
-    rw (div-mul-add r (255 * depth) (wordPlace depth w j) low, mod-mul-add r (255 * depth) (wordPlace depth w j) low, mod-mul-add j depth w hw, eq-eqb r r refl, eq-eqb w w refl) refl
+    let row = div-mul-add r (255 * depth) (wordPlace depth w j) low in
+    let octet = mod-mul-add r (255 * depth) (wordPlace depth w j) low in
+    rw (row, octet, mod-mul-add j depth w hw, eq-eqb r r refl, eq-eqb w w refl) refl
 
 -- two octets of a word lie at two places
 pub octet-place-once : (depth r w i j : ℕ) → w < depth → octetPlace depth r w i ≡ octetPlace depth r w j → i ≡ j

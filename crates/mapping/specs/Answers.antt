@@ -16,12 +16,15 @@ use Rattle.mapping.specs.declared.stepped.SteppedMapping.{SteppedMapping}
 abbrev pub placeAnswer : MappingMeaning → (ℕ → ℕ) → ℕ → Result ℕ MappingFault
 placeAnswer m f p = cond (ltb p (blockSize m)) (Ok (f p)) (Err Place)
 
+-- the memory place that line place p comes from
 abbrev pub sourceAnswer : MappingMeaning → ℕ → Result ℕ MappingFault
 sourceAnswer m p = placeAnswer m (m .source) p
 
+-- what is added at line place p, modulo 2
 abbrev pub maskAnswer : MappingMeaning → ℕ → Result ℕ MappingFault
 maskAnswer m p = placeAnswer m (m .mask) p
 
+-- the fade for a reach, which is not above the largest
 abbrev pub fadeAnswer : MappingMeaning → ℕ → Result ℕ MappingFault
 fadeAnswer m t = cond (leb t maxReach) (Ok (m .fade t)) (Err Reach)
 

@@ -42,6 +42,7 @@ pub record LineWritten (m : MappingMeaning) (memory : List ℕ) (start taken : �
   pub written : (i : ℕ) → i < taken → getD after i 0 ≡ lineOctet m memory (start + i)
   pub kept : (i : ℕ) → taken ≤ i → getD after i 0 ≡ getD before i 0
 
+-- Line octets from `start` on are written, or the refusal leaves the output as it was.
 abbrev pub WriteAnswer : MappingMeaning → List ℕ → ℕ → List ℕ → List ℕ → Result ℕ MappingFault → Type 0
 WriteAnswer m memory start before after (Ok taken) = (stretchRefusal m (length memory) start ≡ None) × LineWritten m memory start taken before after
 WriteAnswer m memory start before after (Err e) = (stretchRefusal m (length memory) start ≡ Some e) × (after ≡ before)
@@ -54,6 +55,7 @@ pub record LineStored (m : MappingMeaning) (line : List ℕ) (start taken : ℕ)
   pub stored : (i : ℕ) → i < taken → getD after (m .source (start + i)) 0 ≡ bitXor (getD line i 0) (m .mask (start + i))
   pub kept : (p : ℕ) → p < blockSize m → (p < start) ⊎ (start + taken ≤ p) → getD after (m .source p) 0 ≡ getD before (m .source p) 0
 
+-- Line octets from `start` on are stored, or the refusal leaves the memory as it was.
 abbrev pub StoreAnswer : MappingMeaning → List ℕ → ℕ → List ℕ → List ℕ → Result ℕ MappingFault → Type 0
 StoreAnswer m line start before after (Ok taken) = (stretchRefusal m (length before) start ≡ None) × LineStored m line start taken before after
 StoreAnswer m line start before after (Err e) = (stretchRefusal m (length before) start ≡ Some e) × (after ≡ before)

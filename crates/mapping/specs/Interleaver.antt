@@ -41,6 +41,7 @@ mostOfRow rows symbol b = b / (rows * symbol) * symbol + min symbol (b % (rows *
 unfoldable pub symbolCost : ℕ → ℕ → ℕ → ℕ → ℕ
 symbolCost depth rows symbol b = (mostOfRow rows symbol b + (depth - 1)) / depth
 
+-- the block mapping for these numbers
 abbrev pub block : ℕ → ℕ → ℕ → MappingMeaning
 block depth rows symbol = record {
   depth = depth;
@@ -50,6 +51,7 @@ block depth rows symbol = record {
   fade = symbolFade depth rows symbol;
 }
 
+-- the stepped mapping for these numbers
 abbrev pub stepped : ℕ → ℕ → ℕ → ℕ → MappingMeaning
 stepped depth rows symbol step = record {
   depth = depth;

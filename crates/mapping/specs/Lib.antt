@@ -4,6 +4,7 @@ pub mod Randomizer
 pub mod Refusal
 pub mod Answers
 pub mod Bulk
+pub mod ComesBack
 pub mod Walk
 pub mod Cost
 pub mod FadeKept

@@ -1,7 +1,8 @@
 -- The randomizer: an octet sequence, restarted at each block, that is added to the mask.
 use mathlib.Core.Path.{_≡_}
 use mathlib.Core.List.{List}
-use Prim.Native.Nat.{ℕ, zero, suc, _+_, _*_, _%_, _≤_, _<_, min}
+use mathlib.Core.Logic.{_⊎_}
+use Prim.Native.Nat.{ℕ, zero, suc, _+_, _-_, _*_, _%_, _≤_, _<_, min}
 use lib.Bits.{bitXor}
 use lib.ListN.{length, getD}
 use Rattle.mapping.specs.Meaning.{MappingMeaning}
@@ -34,6 +35,12 @@ randomized m = record {
   mask = λ p. bitXor (m .mask p) (sequence p);
   fade = m .fade;
 }
+
+-- The sequence from octet `turn` on is added to the octets from place `at` to `end`, and the others are kept.
+pub record RunAdded (at end turn : ℕ) (before after : List ℕ) : Type 0 where
+  pub size : length after ≡ length before
+  pub added : (i : ℕ) → at ≤ i → i < end → getD after i 0 ≡ bitXor (getD before i 0) (sequence (turn + (i - at)))
+  pub kept : (i : ℕ) → (i < at) ⊎ (end ≤ i) → getD after i 0 ≡ getD before i 0
 
 -- The sequence from octet `start` on is added to the first `count` octets, and the rest is kept.
 pub record SequenceAdded (start count : ℕ) (before after : List ℕ) : Type 0 where

@@ -38,5 +38,6 @@ pub use sequence::sequence_octet;
 pub use stepped::SteppedMapping;
 pub use stepped::calls::SteppedIsMapping;
 pub use theorems::figures_stand;
+pub use theorems::line_comes_back;
 pub use theorems::ridden_fade;
 pub use theorems::symbol_costs_stand;

@@ -8,7 +8,7 @@ ghost use Rattle.mapping.specs.Meaning.{MappingMeaning, MappingLaws};
 use crate::MappingFault;
 
 // Whether so many octets are those of a block, of which the product may be past all numbers of the machine.
-pub(crate) fn fills_block(octets: usize, depth: usize, rows: usize) -> bool
+fn fills_block(octets: usize, depth: usize, rows: usize) -> bool
     ensures { λ r. ⌜ r ≡ eqb octets (255 * depth * rows) ⌝ }
 {
     match depth.checked_mul(rows) {

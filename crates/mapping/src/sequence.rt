@@ -1,8 +1,8 @@
 // The randomizer's sequence, as a table.
 ghost use mathlib.Core.Path.{_≡_};
-ghost use Prim.Native.Nat.{_<_, _≤_};
+ghost use Prim.Native.Nat.{_+_, _-_, _<_, _≤_};
 ghost use lib.ListN.{length};
-ghost use Rattle.mapping.specs.Randomizer.{sequence, SequenceAdded, RandomizedPart};
+ghost use Rattle.mapping.specs.Randomizer.{sequence, RunAdded, SequenceAdded, RandomizedPart};
 
 // The sequence comes round after 255 octets; this is one round.
 const SEQUENCE: [u8; 255] = [
@@ -278,15 +278,28 @@ pub fn sequence_octet(p: usize) -> u8
     octet_of_round(p % 255)
 }
 
-// Adds the sequence from octet `start` on to the first `count` octets, modulo 2.
+// Adds the sequence to the octets from place `at` to `end`, from octet `turn` of the first round on, modulo 2.
+fn add_run(octets: &mut [u8], at: usize, end: usize, turn: usize)
+    requires { ⌜ at ≤ end ⌝ ∗ ⌜ end ≤ length (now octets) ⌝ ∗ ⌜ turn + (end - at) ≤ 255 ⌝ }
+    ensures { λ _. ⌜ RunAdded at end turn (now (octets .entry)) (now (octets .exit)) ⌝ }
+{
+    for i in at..end {
+        octets[i] ^= octet_of_round(turn + (i - at));
+    }
+}
+
+// Adds the sequence from octet `start` on to the first `count` octets, modulo 2, round by round.
 pub(crate) fn add_sequence(octets: &mut [u8], count: usize, start: usize)
     requires { ⌜ count ≤ length (now octets) ⌝ }
     ensures { λ _. ⌜ SequenceAdded start count (now (octets .entry)) (now (octets .exit)) ⌝ }
 {
+    let mut at = 0;
     let mut turn = start % 255;
-    for i in 0..count {
-        octets[i] ^= octet_of_round(turn);
-        turn = if turn < 254 { turn + 1 } else { 0 };
+    while at < count {
+        let run = (count - at).min(255 - turn);
+        add_run(octets, at, at + run, turn);
+        at += run;
+        turn = (turn + run) % 255;
     }
 }
 

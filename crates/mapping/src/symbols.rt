@@ -6,6 +6,9 @@ ghost use Rattle.mapping.specs.Interleaver.{blockOf, columns, symbolPlace};
 use crate::MappingFault;
 use settings::Settings;
 
+// A fade is told for each reach up to this.
+const MAX_REACH: usize = 16;
+
 // The memory place of an octet of the symbol in a column of a row.
 pub(crate) fn symbol_place(settings: &Settings, row: usize, column: usize, octet: usize) -> usize
     requires { ⌜ row < now settings .rows ⌝ ∗ ⌜ column < columns (now settings .depth) (now settings .symbol) ⌝ ∗ ⌜ octet < now settings .symbol ⌝ }
@@ -29,7 +32,7 @@ pub(crate) fn no_mask(settings: &Settings, p: usize) -> Result<u8, MappingFault>
 pub(crate) fn symbol_fade(settings: &Settings, reach: usize) -> Result<usize, MappingFault>
     ensures { λ r. ⌜ r ≡ fadeAnswer (blockOf (now (settings .entry))) reach ⌝ }
 {
-    if reach > 16 {
+    if reach > MAX_REACH {
         return Err(MappingFault::Reach);
     }
     let octets = reach * settings.depth();

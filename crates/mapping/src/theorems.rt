@@ -1,4 +1,5 @@
 // What holds of every mapping, and figures of the definitions.
+ghost use Rattle.mapping.specs.ComesBack.{ComesBack};
 ghost use Rattle.mapping.specs.Cost.{SymbolCosts};
 ghost use Rattle.mapping.specs.FadeKept.{RiddenFade};
 ghost use Rattle.mapping.specs.Figures.{Figures};
@@ -13,6 +14,11 @@ pub fn ridden_fade<M: Mapping>(mapping: &M, reach: usize) -> Result<usize, Mappi
 {
     mapping.fade(reach)
 }
+
+// Whatever the mapping, the line of a block, stored as it was written, gives the memory again.
+pub fn line_comes_back<M: Mapping>(_mapping: &M)
+    ensures { λ _. ⌜ ComesBack (M·Mapping .meaning (now («_mapping» .entry))) ⌝ }
+{}
 
 // What the line places of the block and the stepped mappings cost, from which their fade follows.
 pub fn symbol_costs_stand(settings: &Settings)

@@ -1,36 +1,27 @@
-use mathlib.Core.Path.{_≡_, ap, ap₂, sym, _∙_}
+use mathlib.Core.Path.{ap, sym}
 use Prim.Native.Nat.{_+_, _%_}
 use native.Mathlib.Nat.{add-zero}
 use native.Mathlib.Omega.{arith}
-use lib.Bits.{bitXor}
-use Rattle.mapping.specs.Randomizer.{sequence}
-use Rattle.mapping.proofs.Digits.{sequence-mod}
-use Rattle.mapping.proofs.Stretching.{filled-none, filled-more}
+use Rattle.mapping.proofs.Randomizing.{added-join}
+use Rattle.mapping.proofs.Stretching.{filled-none}
 use Rattle.mapping.proofs.sequence.add_sequence.Needs as need
-use Rattle.mapping.proofs.sequence.add_sequence.Needs.{then-turn-lt254, else-turn-lt254}
 
-pub loop-i-holds : need.loop-i-holds
-loop-i-holds c = (filled-none _ (c .args .octets .now), ap (λ x. x % 255) (sym (add-zero (c .args .start))))
+pub loop-at-holds : need.loop-at-holds
+loop-at-holds c = (filled-none _ (c .args .octets .now), ap (λ x. x % 255) (sym (add-zero (c .args .start))), omega arith)
 
-pub octet-of-round-requires : need.octet-of-round-requires
-octet-of-round-requires c κs = omega (arith, c .loop-i .inv .1)
-
-pub loop-i-again : need.loop-i-again
-loop-i-again c =
-    let p = c .args .start + c .loop-i .i in
-    let octet : c .octet-of-round .result ≡ sequence p = c .octet-of-round .ensures ∙ ap sequence (c .loop-i .inv .1) ∙ sym (sequence-mod p) in (
-      filled-more _ (c .args .octets .now) (c .loop-i .octets) (c .loop-i .i) _ (c .loop-i .inv .0) (omega arith)
-          (ap₂ (λ a b. bitXor a b) (c .loop-i .inv .0 .kept (c .loop-i .i) (omega arith)) octet),
-      elim (c .if-turn-lt254 .came) [
-        | then-turn-lt254 w ↦ omega (arith, c .loop-i .inv .1)
-        | else-turn-lt254 w ↦ omega (arith, c .loop-i .inv .1)
-      ],
-    )
+pub loop-at-again : need.loop-at-again
+loop-at-again c = (
+  added-join (c .args .start) (c .loop-at .at) (c .loop-at .at + c .min-run .result) (c .loop-at .turn) (c .args .octets .now) (c .loop-at .octets) (c .add-run .last .octets)
+      (c .loop-at .inv .1) (omega arith) (c .loop-at .inv .0) (c .add-run .ensures),
+  omega (arith, c .loop-at .inv .1),
+  omega (arith, c .min-run .ensures, c .loop-at .inv .2),
+)
 
 pub returns : need.returns
 returns c =
+    let done = c .loop-at .inv .0 in
     record {
-      size = c .loop-i .inv .0 .size;
-      added = λ i l. c .loop-i .inv .0 .written i (omega arith);
-      kept = λ i l. c .loop-i .inv .0 .kept i (omega arith);
+      size = done .size;
+      added = λ i l. done .written i (omega arith);
+      kept = λ i l. done .kept i (omega (arith, c .loop-at .inv .2));
     }
