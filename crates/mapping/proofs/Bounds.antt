@@ -10,7 +10,7 @@ use Rattle.settings.proofs.Ranges.{ranges, block-length-high}
 use Rattle.settings.specs.declared.Settings.{Settings}
 use Rattle.settings.specs.Lengths.{blockLength}
 use Rattle.mapping.specs.Interleaver.{columns, symbolPlace}
-use Rattle.mapping.specs.Meaning.{maxReach}
+use Rattle.octets.specs.Words.{maxReach}
 use Rattle.mapping.specs.Refusal.{stepAllowed}
 use Rattle.mapping.proofs.Interleaver.{Cut}
 

@@ -10,7 +10,8 @@ use lib.Dec.{eqb, lit<}
 use Rattle.std.proofs.shelf.Bits.{div-mul-add, mod-mul-add, mod-below, mul-add-lt, div-below, mul-le}
 use Rattle.std.proofs.shelf.Tests.{cases-lt, cases-bool, eqb-true}
 use Rattle.octets.proofs.Counting.{count-zero, count-suc}
-use Rattle.mapping.specs.Meaning.{MappingLaws, ofRowWord, sourcesOf, maxReach}
+use Rattle.octets.specs.Words.{maxReach}
+use Rattle.mapping.specs.Meaning.{MappingLaws, ofRowWord, sourcesOf}
 use Rattle.mapping.specs.Interleaver.{steppedSource, symbolFade, mostOfRow, symbolCost, stepped}
 use Rattle.mapping.proofs.Turns.{split, dealt, dealt-suc, dealt-own, dealt-rounds, dealt-up, dealt-turn, dealt-none, dealt-zero, dealt-up-to}
 

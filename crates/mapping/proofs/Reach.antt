@@ -12,9 +12,9 @@ use Rattle.std.proofs.shelf.Lists.{getD-take, getD-drop}
 use Rattle.std.proofs.shelf.Tests.{eq-eqb, cases-lt, cases-bool, leb-true, leb-false, both-ways, not-from-true}
 use Rattle.octets.specs.Counting.{count}
 use Rattle.octets.specs.Octets.{differs, altered}
-use Rattle.octets.specs.Words.{wordLength, wordPlace, wordOf}
+use Rattle.octets.specs.Words.{wordLength, wordPlace, wordOf, maxReach}
 use Rattle.octets.proofs.Counting.{count-into}
-use Rattle.mapping.specs.Meaning.{MappingMeaning, MappingLaws, ofRowWord, sourcesOf, blockSize, maxReach}
+use Rattle.mapping.specs.Meaning.{MappingMeaning, MappingLaws, ofRowWord, sourcesOf, blockSize}
 use Rattle.std.specs.declared.result.Result.{Result}
 use Rattle.mapping.specs.Answers.{fadeAnswer}
 use Rattle.mapping.specs.FadeKept.{rowOf, memoryWord, AlteredWithin, FadeKept, RiddenFade}

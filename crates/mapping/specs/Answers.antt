@@ -6,7 +6,8 @@ use lib.Dec.{ltb, leb}
 use Rattle.std.specs.declared.result.Result.{Result}
 use Rattle.std.specs.declared.result.Result.the-variants.{Ok, Err}
 use Rattle.settings.specs.declared.Settings.{Settings}
-use Rattle.mapping.specs.Meaning.{MappingMeaning, blockSize, maxReach}
+use Rattle.octets.specs.Words.{maxReach}
+use Rattle.mapping.specs.Meaning.{MappingMeaning, blockSize}
 use Rattle.mapping.specs.Refusal.{stepAllowed}
 use Rattle.mapping.specs.declared.fault.MappingFault.{MappingFault}
 use Rattle.mapping.specs.declared.fault.MappingFault.the-variants.{Step, Place, Reach}

@@ -7,8 +7,8 @@ use lib.ListN.{getD, take, drop}
 use Rattle.std.specs.declared.result.Result.{Result}
 use Rattle.std.specs.declared.result.Result.the-variants.{Ok, Err}
 use Rattle.octets.specs.Octets.{altered}
-use Rattle.octets.specs.Words.{wordLength, wordOf}
-use Rattle.mapping.specs.Meaning.{MappingMeaning, blockSize, maxReach}
+use Rattle.octets.specs.Words.{wordLength, wordOf, maxReach}
+use Rattle.mapping.specs.Meaning.{MappingMeaning, blockSize}
 use Rattle.mapping.specs.declared.fault.MappingFault.{MappingFault}
 use Rattle.mapping.specs.declared.fault.MappingFault.the-variants.{Reach}
 

@@ -4,7 +4,7 @@ use mathlib.Core.Bool.{Bool, _&&_}
 use Prim.Native.Nat.{ℕ, _+_, _*_, _/_, _%_, _<_, _≤_}
 use lib.Dec.{eqb}
 use Rattle.octets.specs.Counting.{count}
-use Rattle.octets.specs.Words.{wordLength, ofWord}
+use Rattle.octets.specs.Words.{wordLength, maxReach, ofWord}
 
 -- For a block of `rows` rows of `depth` words: data octet p of the line is the octet at memory place `source p`, with `mask p` added
 -- modulo 2. `fade t` is a length in data octets, markers not counted: a code that mends t octets of a word rides through a fade so long.
@@ -22,10 +22,6 @@ rowSize m = wordLength * m .depth
 -- B: the octets of a block, and so its line places and its memory places
 abbrev pub blockSize : MappingMeaning → ℕ
 blockSize m = rowSize m * m .rows
-
--- a fade is told for each reach up to this
-abbrev pub maxReach : ℕ
-maxReach = 16
 
 -- Whether memory place q is an octet of word w of row r. Rows lie one after the other, and words are woven in a row.
 abbrev pub ofRowWord : ℕ → ℕ → ℕ → ℕ → Bool
