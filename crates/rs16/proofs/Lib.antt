@@ -8,6 +8,7 @@ pub mod Locators
 pub mod Alterations
 pub mod Remainders
 pub mod Theorems
+pub mod WideNumbers
 pub mod Steps
 pub mod Residues
 pub mod Woven

@@ -26,27 +26,11 @@ plus-multiple-at f (c ∷ g) r (suc k) l =
     plus-multiple-at f g (drop 1 r) k (le-of-suc-le-suc l)
     ∙ ap (λ z. z ⊕ multiple f (getD g k 0)) (getD-drop 1 r k 0 ∙ ap (λ n. getD r n 0) (one-add k))
 
-divide-step-at : (o : ℕ) (r : List ℕ) (k : ℕ) → k < 32 → getD (divideStep o r) k 0 ≡ getD r (k + 1) 0 ⊕ multiple (getD r 0 0 ⊕ o) (getD generator k 0)
+pub divide-step-at : (o : ℕ) (r : List ℕ) (k : ℕ) → k < 32 → getD (divideStep o r) k 0 ≡ getD r (k + 1) 0 ⊕ multiple (getD r 0 0 ⊕ o) (getD generator k 0)
 unfolding divideStep
 divide-step-at o r k l =
     plus-multiple-at (getD r 0 0 ⊕ o) generator (drop 1 r) k (subst (λ n. k < n) (sym generator-length) l)
     ∙ ap (λ z. z ⊕ multiple (getD r 0 0 ⊕ o) (getD generator k 0)) (getD-drop 1 r k 0 ∙ ap (λ n. getD r n 0) (omega arith))
-
--- what a loop over the first 31 places wrote, with the last place behind it
-pub divide-step-all : (o : ℕ) (r next : List ℕ) (v : ℕ) → length r ≡ 32 → length next ≡ 32
-    → ((k : ℕ) → k < 31 → getD next k 0 ≡ getD r (k + 1) 0 ⊕ multiple (getD r 0 0 ⊕ o) (getD generator k 0))
-    → v ≡ multiple (getD r 0 0 ⊕ o) (getD generator 31 0) → set next 31 v ≡ divideStep o r
-divide-step-all o r next v lr ln h q =
-    ext-getD 0 (set next 31 v) (divideStep o r) (length-set next 31 v ∙ ln ∙ sym (divide-step-length o r)) (λ k lk.
-    let low : k < length next = subst (λ n. k < n) (length-set next 31 v) lk in
-    elim (cases-eq k 31) [
-      | inl last ↦
-          subst (λ z. getD (set next 31 v) z 0 ≡ getD (divideStep o r) z 0) (sym last)
-          (getD-set-same next 31 v 0 (omega arith) ∙ q
-          ∙ sym (divide-step-at o r 31 (omega arith)
-          ∙ ap (λ z. z ⊕ multiple (getD r 0 0 ⊕ o) (getD generator 31 0)) (getD-past r 32 0 (omega arith))))
-      | inr other ↦ getD-set-other next 31 k v 0 other ∙ h k (omega arith) ∙ sym (divide-step-at o r k (omega arith))
-    ])
 
 -- ---- the division of a list
 

@@ -6,6 +6,7 @@ mod division;
 mod field;
 mod laws;
 mod multiples;
+mod rows;
 mod tables;
 mod weaving;
 
