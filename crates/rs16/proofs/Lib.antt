@@ -12,3 +12,4 @@ pub mod Steps
 pub mod Residues
 pub mod Woven
 pub mod Completed
+pub mod Quotients

@@ -6,6 +6,7 @@ use native.Mathlib.Omega.{arith}
 use lib.Dec.{eqb, eqb→eq}
 use Rattle.rs16.specs.Field.{_⊗_, IsOctet, pow, alpha}
 use Rattle.rs16.specs.Codewords.{root}
+use Rattle.rs16.specs.Mending.{locator}
 use Rattle.rs16.proofs.Below.{all, below}
 use Rattle.rs16.proofs.Powers.{exp, exp-distinct, exp-mod, exp-not-zero, pow-exp}
 use Rattle.rs16.proofs.Polynomials.{mul-assoc, no-divisors, octet-mul, octet-pow, pow-add, zero-mul, one-not-zero}
@@ -14,10 +15,6 @@ pub pow-pow : (x a b : ℕ) → pow (pow x a) b ≡ pow x (a * b)
 unfolding pow
 pow-pow x a zero = ap (pow x) (sym (times-zero a))
 pow-pow x a (suc b) = ap (λ z. pow x a ⊗ z) (pow-pow x a b) ∙ sym (pow-add x a (a * b)) ∙ ap (pow x) (plus-comm a (a * b) ∙ sym (mul-suc a b))
-
--- the locator of the octet at power k
-unfoldable pub locator : ℕ → ℕ
-locator k = pow (pow alpha 11) k
 
 locator-is : (k : ℕ) → pow (pow alpha 11) k ≡ locator k
 unfolding locator

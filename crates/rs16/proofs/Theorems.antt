@@ -10,8 +10,8 @@ use Rattle.octets.proofs.Words.{row-from-words, word-from-places}
 use Rattle.rs16.specs.Bench.{OfZeroFrame, BenchValues}
 use Rattle.rs16.specs.Codewords.{root, syndrome, Codeword}
 use Rattle.rs16.specs.DualBasis.{combine, lineOctet}
-use Rattle.rs16.specs.Field.{_⊗_, IsOctet, mul, mulDigits, timesAlpha, pow, alpha, FieldLaws}
-use Rattle.rs16.proofs.Arithmetic.{inv, inv-octet, mul-inv}
+use Rattle.rs16.specs.Field.{_⊗_, IsOctet, mul, mulDigits, timesAlpha, pow, inv, alpha, FieldLaws}
+use Rattle.rs16.proofs.Arithmetic.{inv-octet, mul-inv}
 use Rattle.rs16.proofs.Powers.{log, exp-distinct, log-lt, log-power, pow-exp}
 use Rattle.rs16.proofs.Polynomials.{add-assoc, add-comm, add-zero, add-self, octet-add, octet-mul, mul-assoc, mul-comm, mul-one, mul-add}
 use Rattle.rs16.proofs.Remainders.{one-codeword, value-zeros}

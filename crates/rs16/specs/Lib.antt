@@ -4,3 +4,5 @@ pub mod Codewords
 pub mod Division
 pub mod Calls
 pub mod Bench
+pub mod Polynomials
+pub mod Mending
