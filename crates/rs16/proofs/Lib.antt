@@ -13,3 +13,5 @@ pub mod Residues
 pub mod Woven
 pub mod Completed
 pub mod Quotients
+pub mod Chosen
+pub mod Mending
