@@ -15,3 +15,4 @@ pub mod Completed
 pub mod Quotients
 pub mod Chosen
 pub mod Mending
+pub mod Elimination

@@ -41,7 +41,7 @@ no-quotient : (x y : ℕ) → eval (horner x []) y ≡ 0
 unfolding horner eval
 no-quotient x y = refl
 
-inverse : (a : ℕ) → IsOctet a → ¬ (a ≡ 0) → a ⊗ inv a ≡ 1
+pub inverse : (a : ℕ) → IsOctet a → ¬ (a ≡ 0) → a ⊗ inv a ≡ 1
 inverse zero h n = absurd (n refl)
 inverse (suc a) h n = mul-inv a h
 
