@@ -16,3 +16,5 @@ pub mod Quotients
 pub mod Chosen
 pub mod Mending
 pub mod Elimination
+pub mod Deciding
+pub mod Corrections

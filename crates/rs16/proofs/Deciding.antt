@@ -1,0 +1,78 @@
+-- The check decides: the remainder is 0 just for codewords, so the word with its changes is the codeword within reach, or there is none.
+use mathlib.Core.Path.{_≡_, refl, ap, ap₂, sym, _∙_, subst}
+use mathlib.Core.List.{List, [], _∷_}
+use Prim.Native.Nat.{ℕ, zero, suc, _+_, _≤_, _<_}
+use native.Mathlib.Omega.{arith}
+use lib.ListN.{length, getD, take, drop}
+use Rattle.std.proofs.shelf.Lists.{drop-at}
+use Rattle.octets.specs.Octets.{Octets, altered}
+use Rattle.octets.specs.Words.{wordLength, maxReach}
+use Rattle.octets.proofs.Octets.{altered-self, octets-take}
+use Rattle.code.specs.Calls.{Beyond}
+use Rattle.code.specs.Meaning.{Reached}
+use Rattle.rs16.specs.Codewords.{value, root, syndrome, Codeword, rs16}
+use Rattle.rs16.specs.Division.{checks, plus, residue}
+use Rattle.rs16.specs.DualBasis.{element}
+use Rattle.rs16.specs.Field.{_⊕_, _⊗_, pow}
+use Rattle.rs16.specs.Mending.{chosen, rootAt, evaluator, changed, Solution}
+use Rattle.rs16.specs.Polynomials.{fromRoots}
+use Rattle.rs16.proofs.Alterations.{all-octets}
+use Rattle.rs16.proofs.Chosen.{octet-at}
+use Rattle.rs16.proofs.DualBasis.{element-zero}
+use Rattle.rs16.proofs.Mending.{SyndromesOf, changed-length, changed-octets, mended-right}
+use Rattle.rs16.proofs.Polynomials.{add-self, zero-mul}
+use Rattle.rs16.proofs.Quotients.{Alike}
+use Rattle.rs16.proofs.Remainders.{completed, completed-codeword, completed-begins, one-codeword}
+use Rattle.rs16.proofs.Residues.{plus-at, plus-length, residue-syndrome}
+
+-- each octet is 0
+abbrev pub Nought : List ℕ → Type 0
+Nought r = (k : ℕ) → k < length r → getD r k 0 ≡ 0
+
+value-nought : (r : List ℕ) (x : ℕ) → Nought r → value r x ≡ 0
+unfolding value
+value-nought [] x h = refl
+value-nought (o ∷ r) x h =
+    ap₂ (λ a b. element a ⊗ pow x (length r) ⊕ b) (h 0 (let some : 0 < suc (length r) = omega arith in some))
+    (value-nought r x (λ k l. h (suc k) (let more : suc k < suc (length r) = omega arith in more)))
+    ∙ ap (λ z. z ⊗ pow x (length r) ⊕ 0) element-zero ∙ ap (λ z. z ⊕ 0) (zero-mul (pow x (length r)))
+
+-- a word whose remainder is 0 is a codeword
+pub nought-codeword : (w : List ℕ) → Octets wordLength w → Nought (residue w) → Codeword w
+nought-codeword w hw z = record { octets = hw; zeros = λ m l. sym (residue-syndrome w (hw .size) m l) ∙ value-nought (residue w) (root m) z }
+
+-- a codeword's remainder is 0
+pub codeword-nought : (c : List ℕ) → Codeword c → Nought (residue c)
+unfolding residue
+codeword-nought c cc k l =
+    let h : List ℕ = take 223 c in
+    let ho : Octets 223 (take 223 c) = octets-take wordLength 223 c (omega arith) (cc .octets) in
+    let is : c ≡ completed (take 223 c) = one-codeword c (completed h) cc (completed-codeword h ho) (sym (completed-begins h ho)) in
+    let end : drop 223 c ≡ checks (take 223 c) = ap (drop 223) is ∙ drop-at h (checks h) 223 (ho .size) in
+    let low : k < length (checks h) = subst (λ n. k < n) (plus-length (checks h) (drop 223 c)) l in
+    ap (λ e. getD (plus (checks h) e) k 0) end ∙ plus-at (checks h) (checks h) k low ∙ add-self (getD (checks h) k 0)
+
+-- a codeword is within reach of itself
+pub clean : (w : List ℕ) → Octets wordLength w → Nought (residue w) → Reached rs16 w w
+clean w hw z = record { is-codeword = nought-codeword w hw z; near = omega (arith, altered-self wordLength w) }
+
+module _ (w q p s new : List ℕ) (hw : Octets wordLength w) (syndromes : SyndromesOf w s) (sol : Solution maxReach q s) (short : length p ≤ 33)
+    (product : Alike p (fromRoots (chosen (rootAt q) wordLength))) (made : new ≡ changed (rootAt q) p (evaluator (drop 1 p) s) w) where
+  new-octets : Octets wordLength new
+  new-octets =
+      let o : List ℕ = evaluator (drop 1 p) s in
+      record {
+        size = ap length made ∙ changed-length (rootAt q) p o w ∙ hw .size;
+        octet = λ j l. subst (λ v. getD v j 0 < 256) (sym made)
+            (octet-at (changed (rootAt q) p o w) (changed-octets (rootAt q) p o w (all-octets wordLength w hw)) j);
+      }
+
+  -- what passes the check is the codeword within reach
+  pub good : altered wordLength w new ≤ maxReach → Nought (residue new) → Reached rs16 w new
+  good near z = record { is-codeword = nought-codeword new new-octets z; near = near }
+
+  -- what does not pass shows that there is none
+  pub bad : (Nought (residue new) → ⊥) → Beyond rs16 w
+  bad fails c reached =
+      let is : new ≡ c = made ∙ mended-right maxReach (omega arith) w c q p s hw syndromes (reached .is-codeword) (reached .near) sol short product in
+      fails (subst (λ v. Nought (residue v)) (sym is) (codeword-nought c (reached .is-codeword)))
