@@ -14,7 +14,7 @@ use Rattle.std.proofs.shelf.Tests.{cases-lt, cases-eq}
 use Rattle.rs16.specs.Field.{_⊕_, _⊗_, IsOctet, inv}
 use Rattle.rs16.specs.Polynomials.{apply}
 use Rattle.rs16.specs.Mending.{Cleared, Monic, Pivot, Pivots, Solution}
-use Rattle.rs16.proofs.Mending.{inverse}
+use Rattle.rs16.proofs.Inverses.{inverse}
 use Rattle.rs16.proofs.Polynomials.{ring, add-zero, add-self, add-comm, add-assoc, add-left-comm, add-self-left, zero-add, mul-assoc, mul-comm, mul-left-comm, mul-add, add-mul, mul-zero, zero-mul, mul-one, octet-add, octet-mul, octet-zero, octet-one}
 
 pub apply-scaled : (a r : List ℕ) (f : ℕ) (S : ℕ → ℕ) → length a ≡ length r

@@ -3,6 +3,7 @@ pub mod Additive
 pub mod Arithmetic
 pub mod Powers
 pub mod Polynomials
+pub mod Inverses
 pub mod DualBasis
 pub mod Locators
 pub mod Alterations
@@ -18,3 +19,4 @@ pub mod Mending
 pub mod Elimination
 pub mod Deciding
 pub mod Corrections
+pub mod Sums

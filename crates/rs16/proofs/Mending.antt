@@ -19,9 +19,9 @@ use Rattle.rs16.specs.Codewords.{syndrome, Codeword}
 use Rattle.rs16.specs.Polynomials.{eval, apply, fromRoots, horner, slope}
 use Rattle.rs16.specs.Mending.{locator, chosen, rootAt, evaluator, change, changed, Solution}
 use Rattle.rs16.proofs.Alterations.{by-eq, gap, gaps, gaps-sum, alterations, alterations-sum, alterations-length, alterations-octets, alterations-distinct, alterations-weighty, all-octets}
-use Rattle.rs16.proofs.Arithmetic.{mul-inv}
 use Rattle.rs16.proofs.Chosen.{Separates, few-chosen, separates}
 use Rattle.rs16.proofs.DualBasis.{element-octet, line-octet-add, line-octet-element, line-octet-octet}
+use Rattle.rs16.proofs.Inverses.{inverse}
 use Rattle.rs16.proofs.Locators.{locator-distinct, locator-octet, locator-not-zero, mul-not-zero, pow-not-zero, weight, weight-zero}
 use Rattle.rs16.proofs.Polynomials.{add-self, add-self-left, add-zero, zero-add, mul-assoc, mul-comm, mul-one, mul-zero, zero-mul, octet-add, octet-mul, octet-pow, powerSum, weighed, apply-sum, other-root, locates}
 use Rattle.rs16.proofs.Quotients.{Alike, evaluator-value, octet-slope}
@@ -40,10 +40,6 @@ horner-length x (c ∷ p) = ap suc (horner-length x p)
 no-quotient : (x y : ℕ) → eval (horner x []) y ≡ 0
 unfolding horner eval
 no-quotient x y = refl
-
-pub inverse : (a : ℕ) → IsOctet a → ¬ (a ≡ 0) → a ⊗ inv a ≡ 1
-inverse zero h n = absurd (n refl)
-inverse (suc a) h n = mul-inv a h
 
 module _ (test : ℕ → Bool) where
   -- the power of each octet that was altered passes the test

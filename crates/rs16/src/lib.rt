@@ -2,12 +2,14 @@
 // Its definitions stand in specs/: the field, the dual basis of the line octets, and the codewords.
 
 mod calls;
+mod coefficients;
 mod division;
 mod field;
 mod laws;
 mod multiples;
 mod tables;
 mod weaving;
+mod windows;
 
 pub use calls::Rs16;
 pub use field::element_of;
