@@ -7,13 +7,14 @@ use Prim.Native.Nat.{ℕ, zero, suc, _+_, _≤_, _<_}
 use native.Mathlib.Nat.{le-refl, eq-or-lt-of-le, le-of-suc-le-suc, not-suc-le-zero}
 use native.Mathlib.Numerals.{add-one}
 use native.Mathlib.Omega.{arith}
+use lib.Dec.{eqb}
 use lib.ListN.{length, getD}
 use Rattle.std.specs.shelf.Lists.{All}
 use Rattle.std.proofs.shelf.Elements.{all-from-getD}
 use Rattle.std.proofs.shelf.Tests.{cond-both, cases-lt, eqb-true}
 use Rattle.rs16.specs.Field.{IsOctet}
 use Rattle.rs16.specs.Polynomials.{eval, fromRoots, slope}
-use Rattle.rs16.specs.Mending.{locator, chosen, rootAt, Solution}
+use Rattle.rs16.specs.Mending.{locator, chosen, zeroAt, Solution, Values}
 use Rattle.rs16.proofs.Alterations.{Under, under-more, under-apart, under-octets}
 use Rattle.rs16.proofs.Locators.{locator-octet}
 use Rattle.rs16.proofs.Polynomials.{Member, Distinct, at-root, few-roots, octet-zero}
@@ -73,7 +74,22 @@ module _ (test : ℕ → Bool) where
     | inr more ↦ let same : n ≡ suc m = omega arith in subst (λ k. length (chosen test n) ≤ length (chosen test k)) same (omega arith)
   ]
 
+-- tests that agree choose alike
+pub chosen-alike : (test other : ℕ → Bool) (n : ℕ) → ((k : ℕ) → k < n → test k ≡ other k) → chosen test n ≡ chosen other n
+unfolding chosen
+chosen-alike test other zero h = refl
+chosen-alike test other (suc n) h =
+    ap (λ b. cond b (locator n ∷ chosen test n) (chosen test n)) (h n (le-refl (suc n)))
+    ∙ ap (λ zs. cond (other n) (locator n ∷ zs) zs) (chosen-alike test other n (λ k l. h k (omega arith)))
+
 -- ---- the roots of a polynomial
+
+-- whether p is 0 at the locator of power k
+abbrev pub rootAt : List ℕ → ℕ → Bool
+rootAt p k = eqb (eval p (locator k)) 0
+
+pub root-at-value : (p v : List ℕ) → Values p v → (k : ℕ) → k < 255 → zeroAt v k ≡ rootAt p k
+root-at-value p v h k l = ap (λ z. eqb z 0) (h .1 k l)
 
 chosen-roots : (p : List ℕ) (n : ℕ) → All (λ x. eval p x ≡ 0) (chosen (rootAt p) n)
 unfolding chosen

@@ -14,12 +14,12 @@ use Rattle.rs16.specs.Codewords.{value, root, syndrome, Codeword, rs16}
 use Rattle.rs16.specs.Division.{checks, plus, residue}
 use Rattle.rs16.specs.DualBasis.{element}
 use Rattle.rs16.specs.Field.{_⊕_, _⊗_, pow}
-use Rattle.rs16.specs.Mending.{chosen, rootAt, evaluator, changed, Solution}
+use Rattle.rs16.specs.Mending.{chosen, zeroAt, evaluator, changed, Solution, Values}
 use Rattle.rs16.specs.Polynomials.{fromRoots}
 use Rattle.rs16.proofs.Alterations.{all-octets}
-use Rattle.rs16.proofs.Chosen.{octet-at}
+use Rattle.rs16.proofs.Chosen.{octet-at, rootAt, chosen-alike, root-at-value}
 use Rattle.rs16.proofs.DualBasis.{element-zero}
-use Rattle.rs16.proofs.Mending.{SyndromesOf, changed-length, changed-octets, mended-right}
+use Rattle.rs16.proofs.Mending.{SyndromesOf, changed-alike, changed-length, changed-octets, mended-right}
 use Rattle.rs16.proofs.Polynomials.{add-self, zero-mul}
 use Rattle.rs16.proofs.Quotients.{Alike}
 use Rattle.rs16.proofs.Remainders.{completed, completed-codeword, completed-begins, one-codeword}
@@ -56,15 +56,16 @@ codeword-nought c cc k l =
 pub clean : (w : List ℕ) → Octets wordLength w → Nought (residue w) → Reached rs16 w w
 clean w hw z = record { is-codeword = nought-codeword w hw z; near = omega (arith, altered-self wordLength w) }
 
-module _ (w q p s new : List ℕ) (hw : Octets wordLength w) (syndromes : SyndromesOf w s) (sol : Solution maxReach q s) (short : length p ≤ 33)
-    (product : Alike p (fromRoots (chosen (rootAt q) wordLength))) (made : new ≡ changed (rootAt q) p (evaluator (drop 1 p) s) w) where
+module _ (w q v p s new : List ℕ) (hw : Octets wordLength w) (syndromes : SyndromesOf w s) (sol : Solution maxReach q s) (values : Values q v)
+    (short : length p ≤ 33) (product : Alike p (fromRoots (chosen (zeroAt v) wordLength)))
+    (made : new ≡ changed (zeroAt v) p (evaluator (drop 1 p) s) w) where
   new-octets : Octets wordLength new
   new-octets =
       let o : List ℕ = evaluator (drop 1 p) s in
       record {
-        size = ap length made ∙ changed-length (rootAt q) p o w ∙ hw .size;
-        octet = λ j l. subst (λ v. getD v j 0 < 256) (sym made)
-            (octet-at (changed (rootAt q) p o w) (changed-octets (rootAt q) p o w (all-octets wordLength w hw)) j);
+        size = ap length made ∙ changed-length (zeroAt v) p o w ∙ hw .size;
+        octet = λ j l. subst (λ u. getD u j 0 < 256) (sym made)
+            (octet-at (changed (zeroAt v) p o w) (changed-octets (zeroAt v) p o w (all-octets wordLength w hw)) j);
       }
 
   -- what passes the check is the codeword within reach
@@ -74,5 +75,10 @@ module _ (w q p s new : List ℕ) (hw : Octets wordLength w) (syndromes : Syndro
   -- what does not pass shows that there is none
   pub bad : (Nought (residue new) → ⊥) → Beyond rs16 w
   bad fails c reached =
-      let is : new ≡ c = made ∙ mended-right maxReach (omega arith) w c q p s hw syndromes (reached .is-codeword) (reached .near) sol short product in
-      fails (subst (λ v. Nought (residue v)) (sym is) (codeword-nought c (reached .is-codeword)))
+      let o : List ℕ = evaluator (drop 1 p) s in
+      let agree : (k : ℕ) → k < 255 → zeroAt v k ≡ rootAt q k = root-at-value q v values in
+      let whole : Alike p (fromRoots (chosen (rootAt q) 255)) = subst (λ zs. Alike p (fromRoots zs)) (chosen-alike (zeroAt v) (rootAt q) 255 agree) product in
+      let is : new ≡ c =
+      made ∙ changed-alike (zeroAt v) (rootAt q) p o w (λ k l. agree k (subst (λ n. k < n) (hw .size) l))
+      ∙ mended-right maxReach (omega arith) w c q p s hw syndromes (reached .is-codeword) (reached .near) sol short whole in
+      fails (subst (λ u. Nought (residue u)) (sym is) (codeword-nought c (reached .is-codeword)))

@@ -18,5 +18,5 @@ pub mod Chosen
 pub mod Mending
 pub mod Elimination
 pub mod Deciding
-pub mod Corrections
+pub mod Correcting
 pub mod Sums

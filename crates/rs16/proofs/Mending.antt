@@ -17,9 +17,9 @@ use Rattle.rs16.specs.Field.{_⊕_, _⊗_, IsOctet, pow, inv}
 use Rattle.rs16.specs.DualBasis.{lineOctet, element}
 use Rattle.rs16.specs.Codewords.{syndrome, Codeword}
 use Rattle.rs16.specs.Polynomials.{eval, apply, fromRoots, horner, slope}
-use Rattle.rs16.specs.Mending.{locator, chosen, rootAt, evaluator, change, changed, Solution}
+use Rattle.rs16.specs.Mending.{locator, chosen, evaluator, change, changed, Solution}
 use Rattle.rs16.proofs.Alterations.{by-eq, gap, gaps, gaps-sum, alterations, alterations-sum, alterations-length, alterations-octets, alterations-distinct, alterations-weighty, all-octets}
-use Rattle.rs16.proofs.Chosen.{Separates, few-chosen, separates}
+use Rattle.rs16.proofs.Chosen.{Separates, rootAt, separates}
 use Rattle.rs16.proofs.DualBasis.{element-octet, line-octet-add, line-octet-element, line-octet-octet}
 use Rattle.rs16.proofs.Inverses.{inverse}
 use Rattle.rs16.proofs.Locators.{locator-distinct, locator-octet, locator-not-zero, mul-not-zero, pow-not-zero, weight, weight-zero}
@@ -151,6 +151,14 @@ module _ (test : ℕ → Bool) where
     cond-both (test (length a)) (x ⊕ change p o (length a)) x IsOctet (λ e. octet-add x (change p o (length a)) (h .0) (change-octet p o (length a))) (λ n. h .0),
     changed-octets p o a (h .1),
   )
+
+-- tests that agree change alike
+pub changed-alike : (test other : ℕ → Bool) (p o w : List ℕ) → ((k : ℕ) → k < length w → test k ≡ other k) → changed test p o w ≡ changed other p o w
+unfolding changed
+changed-alike test other p o [] h = refl
+changed-alike test other p o (x ∷ w) h =
+    ap₂ (λ b v. cond b (x ⊕ change p o (length w)) x ∷ v) (h (length w) (le-refl (suc (length w))))
+    (changed-alike test other p o w (λ k l. h k (omega arith)))
 
 -- ---- the theorem
 

@@ -60,9 +60,9 @@ pub record Reduces (t : ℕ) (s : List ℕ) (n : ℕ) (has r : List ℕ) (h : �
 abbrev pub Values : List ℕ → List ℕ → Type 0
 Values p v = (length v ≡ wordLength) × ((k : ℕ) → k < wordLength → getD v k 0 ≡ eval p (locator k))
 
--- whether p is 0 at the locator of power k
-abbrev pub rootAt : List ℕ → ℕ → Bool
-rootAt p k = eqb (eval p (locator k)) 0
+-- whether the value at power k is 0
+abbrev pub zeroAt : List ℕ → ℕ → Bool
+zeroAt values k = eqb (getD values k 0) 0
 
 -- the locators of the powers below n that pass a test, the highest power first
 unfoldable pub chosen : (ℕ → Bool) → ℕ → List ℕ
@@ -91,9 +91,10 @@ unfoldable pub corrected : ℕ → List ℕ → List ℕ → List ℕ → List �
 corrected zero places octets word = word
 corrected (suc n) places octets word = set (corrected n places octets word) (getD places n 0) (getD octets n 0)
 
--- Corrections of a word: at most 32, places rising, each once, each with an octet other than the one that arrived.
+-- Corrections of a word: at most 32, places rising, each once, each with an octet other than the one that arrived; zeros behind them.
 pub record Corrects (word : List ℕ) (count : ℕ) (places octets : List ℕ) : Type 0 where
   pub few : count ≤ 32
   pub inside : (i : ℕ) → i < count → getD places i 0 < wordLength
   pub rising : (i k : ℕ) → i < k → k < count → getD places i 0 < getD places k 0
   pub other : (i : ℕ) → i < count → ¬ (getD octets i 0 ≡ getD word (getD places i 0) 0)
+  pub spare : (i : ℕ) → count ≤ i → (getD places i 0 ≡ 0) × (getD octets i 0 ≡ 0)

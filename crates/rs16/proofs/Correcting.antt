@@ -113,16 +113,19 @@ module _ (test : ℕ → Bool) (p o w : List ℕ) where
     pub before : (i : ℕ) → i < n → getD ps i 0 < j
     pub rising : (i k : ℕ) → i < k → k < n → getD ps i 0 < getD ps k 0
     pub other : (i : ℕ) → i < n → ¬ (getD os i 0 ≡ getD w (getD ps i 0) 0)
+    pub spare : (i : ℕ) → n ≤ i → (getD ps i 0 ≡ 0) × (getD os i 0 ≡ 0)
     pub done : (k : ℕ) → k < j → getD (corrected n ps os w) k 0 ≡ getD (changed test p o w) k 0
 
-  pub finding-none : (ps os : List ℕ) → length ps ≡ 32 → length os ≡ 32 → Finding 0 0 ps os
-  finding-none ps os lp lo = record {
+  pub finding-none : (ps os : List ℕ) → length ps ≡ 32 → length os ≡ 32 → ((i : ℕ) → getD ps i 0 ≡ 0) → ((i : ℕ) → getD os i 0 ≡ 0)
+      → Finding 0 0 ps os
+  finding-none ps os lp lo zp zo = record {
     places-size = lp;
     octets-size = lo;
     room = omega arith;
     before = λ i l. absurd (not-suc-le-zero l);
     rising = λ i k l u. absurd (not-suc-le-zero u);
     other = λ i l. absurd (not-suc-le-zero l);
+    spare = λ i l. (zp i, zo i);
     done = λ k l. absurd (not-suc-le-zero l);
   }
 
@@ -142,6 +145,7 @@ module _ (test : ℕ → Bool) (p o w : List ℕ) where
       before = λ i l. let low : getD ps i 0 < j = h .before i l in omega arith;
       rising = h .rising;
       other = h .other;
+      spare = h .spare;
       done = λ k l. elim (cases-lt k j) [
         | inl lt ↦ h .done k lt
         | inr ge ↦
@@ -177,9 +181,6 @@ module _ (test : ℕ → Bool) (p o w : List ℕ) where
         (here : v ≡ getD w j 0 ⊕ c) where
       low-n : n < 32
       low-n = room-left few yes
-
-      ps′ : List ℕ
-      ps′ = set ps n j
 
       place-old : (i : ℕ) → i < n → getD (set ps n j) i 0 ≡ getD ps i 0
       place-old i l = getD-set-other ps n i j 0 (λ e. omega arith)
@@ -227,6 +228,10 @@ module _ (test : ℕ → Bool) (p o w : List ℕ) where
               (λ e. differing (sym octet-new ∙ e ∙ ap (λ z. getD w z 0) place-new))
           | inr less ↦ λ e. h .other i (omega arith) (sym (octet-old i (omega arith)) ∙ e ∙ ap (λ z. getD w z 0) (place-old i (omega arith)))
         ];
+        spare = λ i l. (
+          getD-set-other ps n i j 0 (λ e. omega arith) ∙ h .spare i (omega arith) .0,
+          getD-set-other os n i v 0 (λ e. omega arith) ∙ h .spare i (omega arith) .1,
+        );
         done = λ k l. ap (λ u. getD u k 0) word-now ∙ elim (cases-eq k j) [
           | inl same ↦
               subst (λ z. getD (set (corrected n ps os w) j v) z 0 ≡ getD (changed test p o w) z 0) (sym same)
@@ -245,6 +250,7 @@ module _ (test : ℕ → Bool) (p o w : List ℕ) where
       inside = λ i l. let low : getD ps i 0 < j = h .before i l in omega arith;
       rising = h .rising;
       other = h .other;
+      spare = h .spare;
     },
     ext-getD 0 (corrected n ps os w) (changed test p o w) (corrected-length n ps os w ∙ sym (changed-length test p o w))
         (λ k l. h .done k (omega (arith, corrected-length n ps os w))),
