@@ -99,13 +99,18 @@ chosen-roots p (suc k) =
     (λ e. (eqb-true (eval p (locator k)) 0 e, chosen-roots p k)) (λ n. chosen-roots p k)
 
 -- a solution of bound t has at most t roots
-pub few-chosen : (t : ℕ) (p s : List ℕ) → Solution t p s → length (chosen (rootAt p) 255) ≤ t
+few-chosen : (t : ℕ) (p s : List ℕ) → Solution t p s → length (chosen (rootAt p) 255) ≤ t
 few-chosen t p s sol = elim (cases-lt (length (chosen (rootAt p) 255)) (length p)) [
   | inl less ↦ let size : length p ≡ t + 1 = sol .size in omega arith
   | inr many ↦
       absurd (sol .other (few-roots (chosen (rootAt p) 255) p (chosen-octets (rootAt p) 255) (sol .octets) (chosen-distinct (rootAt p) 255 (le-refl 255))
       (chosen-roots p 255) many))
 ]
+
+-- the same, by the values at the locators
+pub few-zeros : (t : ℕ) (p v s : List ℕ) → Solution t p s → Values p v → length (chosen (zeroAt v) 255) ≤ t
+few-zeros t p v s sol values =
+    subst (λ zs. length zs ≤ t) (sym (chosen-alike (zeroAt v) (rootAt p) 255 (root-at-value p v values))) (few-chosen t p s sol)
 
 -- ---- the product over the powers that pass
 

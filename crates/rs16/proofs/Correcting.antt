@@ -8,7 +8,7 @@ use native.Mathlib.Nat.{not-suc-le-zero, le-of-suc-le-suc}
 use native.Mathlib.Numerals.{add-one}
 use native.Mathlib.Omega.{arith}
 use lib.Dec.{eqb}
-use lib.ListN.{length, getD, set}
+use lib.ListN.{length, getD, set, replicate}
 use Rattle.std.proofs.shelf.Lists.{ext-getD, length-set, getD-set-same, getD-set-other}
 use Rattle.std.proofs.shelf.Tests.{cases-eq, cases-lt, cond-true, cond-false, eq-eqb, ne-eqb}
 use Rattle.octets.specs.Octets.{altered, differs}
@@ -19,7 +19,8 @@ use Rattle.rs16.specs.Field.{_⊕_}
 use Rattle.rs16.specs.Mending.{locator, chosen, change, changed, corrected, Corrects}
 use Rattle.rs16.proofs.Chosen.{chosen-grows, chosen-yes}
 use Rattle.rs16.proofs.Mending.{changed-length}
-use Rattle.rs16.proofs.Polynomials.{add-zero, add-self-left, add-comm}
+use Rattle.rs16.proofs.Polynomials.{add-zero, add-self-left}
+use Rattle.rs16.proofs.Remainders.{getD-zeros}
 
 pub corrected-none : (ps os w : List ℕ) → corrected 0 ps os w ≡ w
 unfolding corrected
@@ -92,6 +93,16 @@ counted w ps os count size h (suc n) l =
     (h .other n l)
     ∙ ap suc (counted w ps os count size h n (omega arith))
 
+-- there may be none
+pub no-corrections : (w : List ℕ) → Corrects w 0 (replicate 32 0) (replicate 32 0)
+no-corrections w = record {
+  few = omega arith;
+  inside = λ i l. absurd (not-suc-le-zero l);
+  rising = λ i k l u. absurd (not-suc-le-zero u);
+  other = λ i l. absurd (not-suc-le-zero l);
+  spare = λ i l. (getD-zeros 32 i, getD-zeros 32 i);
+}
+
 -- ---- the changed word, octet by octet
 
 changed-at : (test : ℕ → Bool) (p o w : List ℕ) (j : ℕ) → j < length w
@@ -128,6 +139,11 @@ module _ (test : ℕ → Bool) (p o w : List ℕ) where
     spare = λ i l. (zp i, zo i);
     done = λ k l. absurd (not-suc-le-zero l);
   }
+
+  pub finding-as : (j n m : ℕ) (ps os qs us : List ℕ) → m ≡ n → qs ≡ ps → us ≡ os → Finding j n ps os → Finding j m qs us
+  finding-as j n m ps os qs us en ep eo h =
+      subst (λ (k : ℕ). Finding j k qs us) (sym en)
+      (subst (λ (xs : List ℕ). Finding j n xs us) (sym ep) (subst (λ (xs : List ℕ). Finding j n ps xs) (sym eo) h))
 
   module _ (size : length w ≡ wordLength) (j n : ℕ) (ps os : List ℕ) (lj : j < 255) (h : Finding j n ps os) where
     power : length w - (j + 1) ≡ 254 - j

@@ -4,7 +4,9 @@ use mathlib.Core.List.{List, [], _∷_}
 use Prim.Native.Nat.{ℕ, zero, suc, _+_, _≤_, _<_}
 use native.Mathlib.Omega.{arith}
 use lib.ListN.{length, getD, take, drop}
+use Rattle.std.proofs.shelf.Counted.{getD-map-counting}
 use Rattle.std.proofs.shelf.Lists.{drop-at}
+use Rattle.octets.specs.Counting.{tabulate}
 use Rattle.octets.specs.Octets.{Octets, altered}
 use Rattle.octets.specs.Words.{wordLength, maxReach}
 use Rattle.octets.proofs.Octets.{altered-self, octets-take}
@@ -23,7 +25,7 @@ use Rattle.rs16.proofs.Mending.{SyndromesOf, changed-alike, changed-length, ch
 use Rattle.rs16.proofs.Polynomials.{add-self, zero-mul}
 use Rattle.rs16.proofs.Quotients.{Alike}
 use Rattle.rs16.proofs.Remainders.{completed, completed-codeword, completed-begins, one-codeword}
-use Rattle.rs16.proofs.Residues.{plus-at, plus-length, residue-syndrome}
+use Rattle.rs16.proofs.Residues.{plus-at, plus-length, residue-syndrome, residue-syndromes}
 
 -- each octet is 0
 abbrev pub Nought : List ℕ → Type 0
@@ -51,6 +53,12 @@ codeword-nought c cc k l =
     let end : drop 223 c ≡ checks (take 223 c) = ap (drop 223) is ∙ drop-at h (checks h) 223 (ho .size) in
     let low : k < length (checks h) = subst (λ n. k < n) (plus-length (checks h) (drop 223 c)) l in
     ap (λ e. getD (plus (checks h) e) k 0) end ∙ plus-at (checks h) (checks h) k low ∙ add-self (getD (checks h) k 0)
+
+-- the values of a word's remainder at the roots are the word's syndromes
+pub syndromes-of : (w r s : List ℕ) → length w ≡ wordLength → r ≡ residue w → s ≡ tabulate 32 (λ m. value r (root m)) → SyndromesOf w s
+syndromes-of w r s size is-residue is m l =
+    ap (λ z. getD z m 0) (is ∙ ap (λ z. tabulate 32 (λ m. value z (root m))) is-residue ∙ residue-syndromes w size)
+    ∙ getD-map-counting (syndrome w) 0 32 m m 0 l (omega arith)
 
 -- a codeword is within reach of itself
 pub clean : (w : List ℕ) → Octets wordLength w → Nought (residue w) → Reached rs16 w w

@@ -20,3 +20,4 @@ pub mod Elimination
 pub mod Deciding
 pub mod Correcting
 pub mod Sums
+pub mod Products

@@ -85,3 +85,14 @@ root-exp m = exp-mod (11 * (112 + m)) ∙ sym (pow-exp (11 * (112 + m)))
 
 pub root-power : (m : ℕ) → pow alpha ((11 * (112 + m)) % 255) ≡ root m
 root-power m = pow-exp ((11 * (112 + m)) % 255) ∙ root-exp m
+
+-- a locator, and its lift, as powers with small exponents
+pub locator-power : (k : ℕ) → pow alpha ((11 * k) % 255) ≡ locator k
+locator-power k = pow-exp ((11 * k) % 255) ∙ sym (locator-exp k)
+
+pub lift-power : (k : ℕ) → pow alpha ((1232 * k) % 255) ≡ pow (locator k) 112
+unfolding locator
+lift-power k =
+    pow-exp ((1232 * k) % 255) ∙ exp-mod (1232 * k) ∙ sym (pow-exp (1232 * k))
+    ∙ ap (pow alpha) (let turn : 1232 * k ≡ (11 * k) * 112 = omega arith in turn)
+    ∙ sym (pow-pow alpha (11 * k) 112) ∙ ap (λ x. pow x 112) (sym (pow-pow alpha 11 k))

@@ -6,3 +6,4 @@ pub mod Calls
 pub mod Bench
 pub mod Polynomials
 pub mod Mending
+pub mod Searching

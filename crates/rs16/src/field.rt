@@ -42,11 +42,7 @@ pub fn product(a: u8, b: u8) -> u8
 pub(crate) fn inverse(a: u8) -> u8
     ensures { λ r. ⌜ r ≡ inv a ⌝ }
 {
-    if a == 0 {
-        0
-    } else {
-        power(255 - logarithm(a))
-    }
+    if a == 0 { 0 } else { power(255 - logarithm(a)) }
 }
 
 // The line octet of an element.

@@ -6,9 +6,9 @@ ghost use lib.ListN.{length, getD};
 ghost use Rattle.octets.specs.Words.{maxReach};
 ghost use Rattle.rs16.specs.Field.{mul};
 ghost use Rattle.rs16.specs.Mending.{Monic, Pivots, Reduces, Solution};
+use crate::coefficients::applied;
 use crate::field::inverse;
 use crate::field::product;
-use crate::coefficients::applied;
 
 // A row, plus f times another.
 fn combined(r: [u8; 17], q: [u8; 17], f: u8) -> [u8; 17]

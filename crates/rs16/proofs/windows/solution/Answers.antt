@@ -13,15 +13,16 @@ use Rattle.rs16.proofs.windows.solution.Needs as need
 
 pub reduce-got-requires : need.reduce-got-requires
 reduce-got-requires c κs = record {
-    size = (c .loop-n .inv .0, (c .loop-n .inv .1, c .loop-n-test .taken));
-    flags = c .loop-n .inv .2;
-    monic = unit-monic 16 (c .loop-n .n) (c .loop-n-test .taken);
-    pivots = c .loop-n .inv .4 }
+  size = (c .loop-n .inv .0, (c .loop-n .inv .1, c .loop-n-test .taken));
+  flags = c .loop-n .inv .2;
+  monic = unit-monic 16 (c .loop-n .n) (c .loop-n-test .taken);
+  pivots = c .loop-n .inv .4;
+}
 
 pub returns-then-got-eq16 : need.returns-then-got-eq16
 returns-then-got-eq16 c =
     solved 16 (c .args .s) (c .reduce-got .result .row) (c .loop-n .n) (c .reduce-got .ensures .monic)
-      (subst (Cleared (c .args .s) (c .reduce-got .result .row)) (c .if-got-eq16 .taken) (c .reduce-got .ensures .cleared))
+    (subst (Cleared (c .args .s) (c .reduce-got .result .row)) (c .if-got-eq16 .taken) (c .reduce-got .ensures .cleared))
 
 pub loop-n-again : need.loop-n-again
 loop-n-again c =
@@ -35,14 +36,15 @@ loop-n-again c =
     let lq : length q ≡ 17 = search needs in
     let lhas : length (c .loop-n .has) ≡ 16 = c .loop-n .inv .1 in
     let p : Pivot 16 s (n + 1) h q =
-          new-pivot 16 s r q n h v (c .loop-n-test .taken) (c .reduce-got .ensures .monic) (c .reduce-got .ensures .cleared) (c .applied-v .ensures) (c .applied-v .ok)
-            (λ e. c .reduce-got .ensures .other lh (sym (c .applied-v .ensures) ∙ e)) lq
-            (λ k lk. c .multiplied-pivot .ensures k lk ∙ ap (λ f. f ⊗ getD r k 0) (c .inverse .ensures)) in
-    (length-set (c .loop-n .rows) h q ∙ c .loop-n .inv .0,
-     length-set (c .loop-n .has) h 1 ∙ lhas,
-     flags-more 16 (c .loop-n .has) h lh lhas (c .loop-n .inv .2),
-     count-more 16 (c .loop-n .has) h n (omega arith) (c .reduce-got .ensures .free lh) (c .loop-n .inv .3),
-     pivots-more 16 s (c .loop-n .has) (c .loop-n .rows) q n h lh lhas (c .loop-n .inv .0) (c .loop-n .inv .4) p)
+    new-pivot 16 s r q n h v (c .loop-n-test .taken) (c .reduce-got .ensures .monic) (c .reduce-got .ensures .cleared) (c .applied-v .ensures) (c .applied-v .ok)
+    (λ e. c .reduce-got .ensures .other lh (sym (c .applied-v .ensures) ∙ e)) lq
+    (λ k lk. c .multiplied-pivot .ensures k lk ∙ ap (λ f. f ⊗ getD r k 0) (c .inverse .ensures)) in (
+      length-set (c .loop-n .rows) h q ∙ c .loop-n .inv .0,
+      length-set (c .loop-n .has) h 1 ∙ lhas,
+      flags-more 16 (c .loop-n .has) h lh lhas (c .loop-n .inv .2),
+      count-more 16 (c .loop-n .has) h n (omega arith) (c .reduce-got .ensures .free lh) (c .loop-n .inv .3),
+      pivots-more 16 s (c .loop-n .has) (c .loop-n .rows) q n h lh lhas (c .loop-n .inv .0) (c .loop-n .inv .4) p,
+    )
 
 pub returns : need.returns
 returns c =
