@@ -18,9 +18,10 @@ use Rattle.octets.proofs.Octets.{altered-cons, equal-from-altered}
 use Rattle.rs16.specs.Field.{_⊕_, _⊗_, IsOctet, pow}
 use Rattle.rs16.specs.DualBasis.{element}
 use Rattle.rs16.specs.Codewords.{value, root, syndrome, Codeword}
+use Rattle.rs16.specs.Mending.{locator}
 use Rattle.rs16.proofs.Arithmetic.{interchange}
 use Rattle.rs16.proofs.DualBasis.{element-octet, same-octet}
-use Rattle.rs16.proofs.Locators.{locator, locator-distinct, locator-octet, weight, weight-octet, weight-not-zero, weight-zero, weight-in-syndrome}
+use Rattle.rs16.proofs.Locators.{locator-distinct, locator-octet, weight, weight-octet, weight-not-zero, weight-zero, weight-in-syndrome}
 use Rattle.rs16.proofs.Polynomials.{add-self, add-mul, zero-mul, octet-add, powerSum, Distinct, places, vandermonde}
 
 -- a test for equal numbers, by its two ways

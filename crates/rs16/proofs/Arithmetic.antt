@@ -4,7 +4,7 @@ use Prim.Native.Nat.{ℕ, zero, suc, _*_, _/_, _%_, _<_, _^_}
 use native.Mathlib.Nat.{le-of-suc-le-suc, one-mul, zero-mul, mod-lt, mod-mod, add-zero}
 use lib.Bits.{bitXor, xor-mod, xor-shr, xor-assoc, xor-comm, xor-zero-r, xor-self, xor-lt, xor-block}
 use lib.Dec.{T, eqb, eqb→eq, lit<}
-use Rattle.rs16.specs.Field.{timesAlpha, mulDigits, mul}
+use Rattle.rs16.specs.Field.{timesAlpha, mulDigits, mul, squares, inv}
 use Rattle.rs16.proofs.Below.{all, below, below₂}
 use Rattle.rs16.proofs.Additive.{agree, not-digit, at-zero}
 
@@ -146,15 +146,6 @@ mul-one a h = eqb→eq _ _ (below (λ x. eqb (mul x 1) x) 256 (unfold mul mulDig
 
 pub mul-zero : (a : ℕ) → mul a 0 ≡ 0
 mul-zero a = at-zero (mul a) (mul-add-right a)
-
--- x times x^2 times x^4 times .., n factors
-unfoldable pub squares : ℕ → ℕ → ℕ
-squares zero x = 1
-squares (suc n) x = mul x (squares n (mul x x))
-
--- a^254, the inverse of a, as a^2 times a^4 times .. times a^128
-unfoldable pub inv : ℕ → ℕ
-inv a = squares 7 (mul a a)
 
 inv-test : T (all (λ a. eqb (mul (suc a) (inv (suc a))) 1) 255)
 unfolding mul mulDigits timesAlpha all inv squares

@@ -3,6 +3,7 @@ pub mod Additive
 pub mod Arithmetic
 pub mod Powers
 pub mod Polynomials
+pub mod Inverses
 pub mod DualBasis
 pub mod Locators
 pub mod Alterations
@@ -13,3 +14,11 @@ pub mod Steps
 pub mod Residues
 pub mod Woven
 pub mod Completed
+pub mod Quotients
+pub mod Chosen
+pub mod Mending
+pub mod Elimination
+pub mod Deciding
+pub mod Correcting
+pub mod Sums
+pub mod Products

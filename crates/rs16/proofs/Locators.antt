@@ -6,6 +6,7 @@ use native.Mathlib.Omega.{arith}
 use lib.Dec.{eqb, eqb→eq}
 use Rattle.rs16.specs.Field.{_⊗_, IsOctet, pow, alpha}
 use Rattle.rs16.specs.Codewords.{root}
+use Rattle.rs16.specs.Mending.{locator}
 use Rattle.rs16.proofs.Below.{all, below}
 use Rattle.rs16.proofs.Powers.{exp, exp-distinct, exp-mod, exp-not-zero, pow-exp}
 use Rattle.rs16.proofs.Polynomials.{mul-assoc, no-divisors, octet-mul, octet-pow, pow-add, zero-mul, one-not-zero}
@@ -14,10 +15,6 @@ pub pow-pow : (x a b : ℕ) → pow (pow x a) b ≡ pow x (a * b)
 unfolding pow
 pow-pow x a zero = ap (pow x) (sym (times-zero a))
 pow-pow x a (suc b) = ap (λ z. pow x a ⊗ z) (pow-pow x a b) ∙ sym (pow-add x a (a * b)) ∙ ap (pow x) (plus-comm a (a * b) ∙ sym (mul-suc a b))
-
--- the locator of the octet at power k
-unfoldable pub locator : ℕ → ℕ
-locator k = pow (pow alpha 11) k
 
 locator-is : (k : ℕ) → pow (pow alpha 11) k ≡ locator k
 unfolding locator
@@ -88,3 +85,14 @@ root-exp m = exp-mod (11 * (112 + m)) ∙ sym (pow-exp (11 * (112 + m)))
 
 pub root-power : (m : ℕ) → pow alpha ((11 * (112 + m)) % 255) ≡ root m
 root-power m = pow-exp ((11 * (112 + m)) % 255) ∙ root-exp m
+
+-- a locator, and its lift, as powers with small exponents
+pub locator-power : (k : ℕ) → pow alpha ((11 * k) % 255) ≡ locator k
+locator-power k = pow-exp ((11 * k) % 255) ∙ sym (locator-exp k)
+
+pub lift-power : (k : ℕ) → pow alpha ((1232 * k) % 255) ≡ pow (locator k) 112
+unfolding locator
+lift-power k =
+    pow-exp ((1232 * k) % 255) ∙ exp-mod (1232 * k) ∙ sym (pow-exp (1232 * k))
+    ∙ ap (pow alpha) (let turn : 1232 * k ≡ (11 * k) * 112 = omega arith in turn)
+    ∙ sym (pow-pow alpha (11 * k) 112) ∙ ap (λ x. pow x 112) (sym (pow-pow alpha 11 k))

@@ -10,48 +10,20 @@ use lib.Dec.{lit<}
 use lib.ListN.{length}
 use Rattle.std.specs.shelf.Lists.{All}
 use Rattle.rs16.specs.Field.{_⊕_, _⊗_, IsOctet, pow}
+use Rattle.rs16.specs.Polynomials.{eval, apply, carry, mulLinear, fromRoots, horner}
 use Rattle.rs16.proofs.Arithmetic.{mul-one as m1, mul-lt, mul-assoc as ma, mul-comm as mc, mul-add-right as md, no-divisors as divisors}
 
 -- ---- words
-
--- the value at x
-unfoldable pub eval : List ℕ → ℕ → ℕ
-eval [] x = 0
-eval (c ∷ p) x = c ⊕ x ⊗ eval p x
-
--- the sum of p_m times S_m
-unfoldable pub apply : List ℕ → (ℕ → ℕ) → ℕ
-apply [] S = 0
-apply (c ∷ p) S = c ⊗ S 0 ⊕ apply p (λ m. S (suc m))
 
 -- the sum of E times p(X), over the pairs (X, E)
 unfoldable pub weighed : List (ℕ × ℕ) → List ℕ → ℕ
 weighed [] p = 0
 weighed (t ∷ ts) p = t .1 ⊗ eval p (t .0) ⊕ weighed ts p
 
--- c + (z + x) p
-unfoldable pub carry : ℕ → ℕ → List ℕ → List ℕ
-carry x c [] = c ∷ []
-carry x c (d ∷ p) = (c ⊕ x ⊗ d) ∷ carry x d p
-
--- (z + x) p
-unfoldable pub mulLinear : ℕ → List ℕ → List ℕ
-mulLinear x p = carry x 0 p
-
--- the values at x of p and of what is left of it as its lowest coefficients go
-unfoldable pub horner : ℕ → List ℕ → List ℕ
-horner x [] = []
-horner x (c ∷ p) = eval (c ∷ p) x ∷ horner x p
-
 -- the sum of E times X^m, over the pairs (X, E)
 unfoldable pub powerSum : List (ℕ × ℕ) → ℕ → ℕ
 powerSum [] m = 0
 powerSum (t ∷ ts) m = t .1 ⊗ pow (t .0) m ⊕ powerSum ts m
-
--- the product of z + x, over each x
-unfoldable pub fromRoots : List ℕ → List ℕ
-fromRoots [] = 1 ∷ []
-fromRoots (x ∷ xs) = mulLinear x (fromRoots xs)
 
 module _ {A : Type 0} where
   -- y stands in the list
@@ -163,7 +135,7 @@ apply-sum (t ∷ ts) p =
     apply-add p (λ m. t .1 ⊗ pow (t .0) m) (powerSum ts) ∙ ap₂ _⊕_ (apply-powers p (t .0) (t .1)) (apply-sum ts p)
 
 -- ---- a linear factor
-eval-carry : (x c : ℕ) (p : List ℕ) (y : ℕ) → eval (carry x c p) y ≡ c ⊕ (y ⊕ x) ⊗ eval p y
+pub eval-carry : (x c : ℕ) (p : List ℕ) (y : ℕ) → eval (carry x c p) y ≡ c ⊕ (y ⊕ x) ⊗ eval p y
 unfolding carry eval
 eval-carry x c [] y = simp ring
 eval-carry x c (d ∷ p) y = rw (eval-carry x d p y) (simp ring)
@@ -236,13 +208,13 @@ unfolding horner
 length-horner x [] = refl
 length-horner x (c ∷ p) = ap suc (length-horner x p)
 
-octets-horner : (x : ℕ) (p : List ℕ) → All IsOctet p → All IsOctet (horner x p)
+pub octets-horner : (x : ℕ) (p : List ℕ) → All IsOctet p → All IsOctet (horner x p)
 unfolding horner
 octets-horner x [] h = tt
 octets-horner x (c ∷ p) h = (octet-eval (c ∷ p) x h, octets-horner x p (h .1))
 
 -- the other roots of p are roots of the quotient
-other-root : (r c : ℕ) (p : List ℕ) (s : ℕ) → IsOctet r → IsOctet s → All IsOctet p → ¬ (s ≡ r) → eval (c ∷ p) r ≡ 0 → eval (c ∷ p) s ≡ 0
+pub other-root : (r c : ℕ) (p : List ℕ) (s : ℕ) → IsOctet r → IsOctet s → All IsOctet p → ¬ (s ≡ r) → eval (c ∷ p) r ≡ 0 → eval (c ∷ p) s ≡ 0
     → eval (horner r p) s ≡ 0
 other-root r c p s hr hs hp n er es =
     no-divisors (s ⊕ r) (eval (horner r p) s) (octet-add s r hs hr) (octet-eval (horner r p) s (octets-horner r p hp))

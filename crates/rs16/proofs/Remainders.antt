@@ -174,6 +174,11 @@ zeros-octets : (n : ℕ) → All IsOctet (replicate n 0)
 zeros-octets zero = tt
 zeros-octets (suc n) = (octet-zero, zeros-octets n)
 
+pub getD-zeros : (n k : ℕ) → _≡_ {A = ℕ} (getD (replicate n 0) k 0) 0
+getD-zeros zero k = refl
+getD-zeros (suc n) zero = refl
+getD-zeros (suc n) (suc k) = getD-zeros n k
+
 pub value-zeros : (n x : ℕ) → value (replicate n 0) x ≡ 0
 unfolding value
 value-zeros zero x = refl

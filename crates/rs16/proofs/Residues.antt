@@ -19,12 +19,12 @@ use Rattle.rs16.proofs.DualBasis.{element-add}
 use Rattle.rs16.proofs.Polynomials.{add-mul}
 use Rattle.rs16.proofs.Remainders.{checks-length, checks-value, value-append}
 
-plus-length : (a b : List ℕ) → length (plus a b) ≡ length a
+pub plus-length : (a b : List ℕ) → length (plus a b) ≡ length a
 unfolding plus
 plus-length [] b = refl
 plus-length (x ∷ a) b = ap suc (plus-length a (drop 1 b))
 
-plus-at : (a b : List ℕ) (k : ℕ) → k < length a → getD (plus a b) k 0 ≡ getD a k 0 ⊕ getD b k 0
+pub plus-at : (a b : List ℕ) (k : ℕ) → k < length a → getD (plus a b) k 0 ≡ getD a k 0 ⊕ getD b k 0
 unfolding plus
 plus-at [] b k l = absurd (let z : k < 0 = l in omega arith)
 plus-at (x ∷ a) b zero l = refl

@@ -10,11 +10,11 @@ use Rattle.octets.proofs.Words.{row-from-words, word-from-places}
 use Rattle.rs16.specs.Bench.{OfZeroFrame, BenchValues}
 use Rattle.rs16.specs.Codewords.{root, syndrome, Codeword}
 use Rattle.rs16.specs.DualBasis.{combine, lineOctet}
-use Rattle.rs16.specs.Field.{_⊗_, IsOctet, mul, mulDigits, timesAlpha, pow, alpha, FieldLaws}
-use Rattle.rs16.proofs.Arithmetic.{inv, inv-octet, mul-inv}
+use Rattle.rs16.specs.Field.{_⊗_, IsOctet, mul, mulDigits, timesAlpha, pow, inv, alpha, FieldLaws}
+use Rattle.rs16.proofs.Arithmetic.{inv-octet, mul-inv}
 use Rattle.rs16.proofs.Powers.{log, exp-distinct, log-lt, log-power, pow-exp}
 use Rattle.rs16.proofs.Polynomials.{add-assoc, add-comm, add-zero, add-self, octet-add, octet-mul, mul-assoc, mul-comm, mul-one, mul-add}
-use Rattle.rs16.proofs.Remainders.{one-codeword, value-zeros}
+use Rattle.rs16.proofs.Remainders.{getD-zeros, one-codeword, value-zeros}
 
 inverse : (a : ℕ) → IsOctet a → (a ≡ 0 → ⊥) → (b : ℕ) × IsOctet b × (a ⊗ b ≡ 1)
 inverse zero h n = absurd (n refl)
@@ -42,11 +42,6 @@ field-lawful = record {
 }
 
 -- ---- zeros
-
-getD-zeros : (n k : ℕ) → _≡_ {A = ℕ} (getD (replicate n 0) k 0) 0
-getD-zeros zero k = refl
-getD-zeros (suc n) zero = refl
-getD-zeros (suc n) (suc k) = getD-zeros n k
 
 zero-word : Codeword (replicate wordLength 0)
 unfolding syndrome

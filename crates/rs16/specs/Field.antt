@@ -35,6 +35,15 @@ unfoldable pub pow : ℕ → ℕ → ℕ
 pow x zero = 1
 pow x (suc n) = x ⊗ pow x n
 
+-- x times x^2 times x^4 times .., n factors
+unfoldable pub squares : ℕ → ℕ → ℕ
+squares zero x = 1
+squares (suc n) x = mul x (squares n (mul x x))
+
+-- a^254, the inverse of an element other than 0, as a^2 times a^4 times .. times a^128; of 0 it is 0
+unfoldable pub inv : ℕ → ℕ
+inv a = squares 7 (mul a a)
+
 -- α
 abbrev pub alpha : ℕ
 alpha = 2

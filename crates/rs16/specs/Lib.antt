@@ -5,3 +5,6 @@ pub mod Division
 pub mod Rows
 pub mod Calls
 pub mod Bench
+pub mod Polynomials
+pub mod Mending
+pub mod Searching

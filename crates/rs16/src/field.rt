@@ -1,7 +1,7 @@
 // The field by tables: products by logarithms, and the dual basis.
 ghost use mathlib.Core.Path.{_≡_};
 ghost use Prim.Native.Nat.{_<_};
-ghost use Rattle.rs16.specs.Field.{mul, pow, alpha};
+ghost use Rattle.rs16.specs.Field.{mul, pow, inv, alpha};
 ghost use Rattle.rs16.specs.DualBasis.{lineOctet, element};
 use crate::tables::ELEMENTS;
 use crate::tables::LINE_OCTETS;
@@ -36,6 +36,13 @@ pub fn product(a: u8, b: u8) -> u8
         let j = logarithm(b);
         power(i + j)
     }
+}
+
+// The inverse of an element; of 0 it is 0.
+pub(crate) fn inverse(a: u8) -> u8
+    ensures { λ r. ⌜ r ≡ inv a ⌝ }
+{
+    if a == 0 { 0 } else { power(255 - logarithm(a)) }
 }
 
 // The line octet of an element.

@@ -9,6 +9,7 @@ use mapping::BlockIsMapping;
 use mapping::BlockMapping;
 use mapping::Mapping;
 use rs16::Rs16;
+use rs16::Rs16Code;
 use settings::Settings;
 
 // What is quoted for a link, in octets.

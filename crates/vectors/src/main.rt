@@ -2,6 +2,7 @@
 // at each depth those of 1,000 rows' syndromes, and then of the rows encoded.
 ghost use Prim.Native.Nat.{_≤_};
 use rs16::Rs16;
+use rs16::encode_rs16;
 use std::io;
 
 const ROWS: usize = 1000;
@@ -52,7 +53,7 @@ fn digest_syndromes(before: u64, row: &[u8], depth: usize) -> u64 {
 fn encode_row(row: &mut [u8], depth: usize) -> usize {
     let mut refused: usize = 0;
     for word in 0..depth {
-        if Rs16.encode(row, depth, word).is_err() {
+        if encode_rs16(row, depth, word).is_err() {
             refused = refused.wrapping_add(1);
         }
     }

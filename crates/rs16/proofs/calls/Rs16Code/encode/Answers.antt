@@ -3,7 +3,7 @@ use lib.ListN.{take}
 use Rattle.code.proofs.Passed.{passed-size, passed-word}
 use Rattle.rs16.specs.Division.{checks}
 use Rattle.rs16.proofs.Completed.{encoded}
-use Rattle.rs16.proofs.calls.Rs16.encode.Needs as need
+use Rattle.rs16.proofs.calls.Rs16Code.encode.Needs as need
 
 pub store-checks-requires : need.store-checks-requires
 store-checks-requires c κs =
