@@ -1,9 +1,13 @@
 // Prints digests of what rs16 makes of rows that a small generator fills, to be compared with another program's:
-// at each depth those of 1,000 rows' syndromes, and then of the rows encoded.
+// at each depth those of 1,000 rows' syndromes, and of the rows encoded; and those of what mending altered words came to.
 ghost use Prim.Native.Nat.{_≤_};
+use mending::Tally;
+use mending::mend_rows;
 use rs16::Rs16;
 use rs16::encode_rs16;
 use std::io;
+
+mod mending;
 
 const ROWS: usize = 1000;
 
@@ -87,11 +91,34 @@ fn show(rt: &LibcRuntime, depth: usize) -> io::Result<()>
     )
 }
 
+// Prints what mending came to at one depth.
+fn show_mending(rt: &LibcRuntime, depth: usize) -> io::Result<()>
+    requires { ⌜ depth ≤ 8 ⌝ }
+{
+    let mut memory = [0; 2040];
+    let Tally {
+        answers,
+        rows,
+        mended,
+        refused,
+    } = mend_rows(&mut memory[0..255 * depth], depth);
+    println!(
+        rt,
+        "depth {depth}: answers {answers:016x}, mended {rows:016x}, words mended {mended}, refused {refused}"
+    )
+}
+
 fn main(rt: LibcRuntime) -> io::Result<()> {
     show(&rt, 1)?;
     show(&rt, 2)?;
     show(&rt, 3)?;
     show(&rt, 4)?;
     show(&rt, 5)?;
-    show(&rt, 8)
+    show(&rt, 8)?;
+    show_mending(&rt, 1)?;
+    show_mending(&rt, 2)?;
+    show_mending(&rt, 3)?;
+    show_mending(&rt, 4)?;
+    show_mending(&rt, 5)?;
+    show_mending(&rt, 8)
 }
