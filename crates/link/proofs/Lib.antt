@@ -1,0 +1,5 @@
+pub mod Lengths
+pub mod Joined
+pub mod RowWords
+pub mod Rows
+pub mod Tables

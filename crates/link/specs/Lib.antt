@@ -1,0 +1,5 @@
+pub mod Frames
+pub mod Line
+pub mod Refusal
+pub mod SenderSteps
+pub mod Sender
