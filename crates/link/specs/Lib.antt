@@ -1,5 +1,6 @@
 pub mod Frames
 pub mod Line
 pub mod Refusal
+pub mod Pieces
 pub mod SenderSteps
 pub mod Sender

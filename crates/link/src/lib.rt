@@ -1,4 +1,5 @@
 // The link: the line, and the two ends of it. Frames go in at the sender and line octets come out.
+mod drawing;
 mod encoding;
 mod fault;
 mod sender;
