@@ -6,7 +6,7 @@ use Prim.Native.Nat.{ℕ, _<_, _≤_}
 use native.Mathlib.Omega.{arith}
 use lib.Dec.{eqb, ltb}
 use lib.ListN.{length}
-use Rattle.std.proofs.shelf.Tests.{eqb-true, eq-eqb, ltb-true, ltb-false, lt-ltb, le-ltb, and-parts}
+use Rattle.std.proofs.shelf.Tests.{eqb-true, eq-eqb, ltb-true, ltb-false, lt-ltb, le-ltb, and-parts, cond-true}
 use Rattle.std.specs.declared.option.Option.{Option}
 use Rattle.std.specs.declared.option.Option.the-variants.{Some, None}
 use Rattle.settings.specs.declared.Settings.{Settings}
@@ -15,7 +15,7 @@ use Rattle.code.specs.Meaning.{CodeMeaning}
 use Rattle.mapping.specs.Meaning.{MappingMeaning, blockSize}
 use Rattle.link.specs.Frames.{frameLength}
 use Rattle.link.specs.declared.fault.DrawFault.the-variants.{Unfilled}
-use Rattle.link.specs.Refusal.{mappingFits, memoryFits, blockFits, putRefusal, drawRefusal}
+use Rattle.link.specs.Refusal.{mappingFits, putRefusal, drawRefusal, drawRefusalBy}
 
 -- a check that passed, and what comes after it
 pub none-first : {F : Type 0} (b : Bool) (fault : F) (rest : Option F) → cond b rest (Some fault) ≡ None → (b ≡ true) × (rest ≡ None)
@@ -59,25 +59,29 @@ module _ (s : Settings) where
       record { depth-is = d; rows-is = r; block-is = rw (d, r) }
 
   pub draw-accepted : (m : MappingMeaning) (put : ℕ) (memory : List ℕ) → length memory ≡ blockLength s → mappingFits s m ≡ true → s .rows ≤ put
-      → drawRefusal s m put memory ≡ None
-  draw-accepted m put memory l f p = rw (eq-eqb (length memory) (blockLength s) l, f, le-ltb put (s .rows) p)
+      → drawRefusalBy s m put memory ≡ None
+  draw-accepted m put memory l f p = rw (f, eq-eqb (length memory) (blockLength s) l, le-ltb put (s .rows) p)
 
   -- an accepted draw
   pub record DrawFits (m : MappingMeaning) (put : ℕ) (memory : List ℕ) : Type 0 where
-    pub memory-size : length memory ≡ blockLength s
     pub mapping-fits : mappingFits s m ≡ true
+    pub memory-size : length memory ≡ blockLength s
     pub filled : s .rows ≤ put
 
-  pub draw-fits : (m : MappingMeaning) (put : ℕ) (memory : List ℕ) → drawRefusal s m put memory ≡ None → DrawFits m put memory
+  pub draw-fits : (m : MappingMeaning) (put : ℕ) (memory : List ℕ) → drawRefusalBy s m put memory ≡ None → DrawFits m put memory
   draw-fits m put memory e =
       let a = none-first _ _ _ e in
-      let b = and-parts (memoryFits s memory) (mappingFits s m) (a .0) in
+      let b = none-first _ _ _ (a .1) in
       record {
+        mapping-fits = a .0;
         memory-size = eqb-true (length memory) (blockLength s) (b .0);
-        mapping-fits = b .1;
-        filled = ltb-false put (s .rows) (unfilled Unfilled (ltb put (s .rows)) (a .1));
+        filled = ltb-false put (s .rows) (unfilled Unfilled (ltb put (s .rows)) (b .1));
       }
     where
       unfilled : {F : Type 0} (fault : F) (b : Bool) → cond b (Some fault) None ≡ None → b ≡ false
       unfilled fault true e = let z : _≡_ {A = ℕ} 0 1 = cc in absurd (omega arith)
       unfilled fault false e = refl
+
+  -- of a mapping that fits, the checks are the table's
+  pub draw-by-table : (m : MappingMeaning) (put : ℕ) (memory : List ℕ) → mappingFits s m ≡ true → drawRefusalBy s m put memory ≡ drawRefusal s put memory
+  draw-by-table m put memory f = cond-true _ _ _ f

@@ -4,3 +4,5 @@ pub mod Refusal
 pub mod Pieces
 pub mod SenderSteps
 pub mod Sender
+pub mod SenderHistory
+pub mod SenderLaws

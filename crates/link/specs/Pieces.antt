@@ -31,6 +31,6 @@ pub record PieceWritten (s : Settings) (m : MappingMeaning) (memory : List ℕ) 
   pub front : FrontWritten (from (blockLine s m memory) place) taken before after
 
 -- The octets of the block's line from `place` on, until the output or the block ends.
-pub record LineWritten (s : Settings) (m : MappingMeaning) (memory : List ℕ) (place taken : ℕ) (before after : List ℕ) : Type 0 where
+pub record BlockLineWritten (s : Settings) (m : MappingMeaning) (memory : List ℕ) (place taken : ℕ) (before after : List ℕ) : Type 0 where
   pub taken-is : taken ≡ min (length before) (lineLength s - place)
   pub front : FrontWritten (from (blockLine s m memory) place) taken before after

@@ -41,11 +41,6 @@ mappingFits s m = eqb (m .depth) (s .depth) && eqb (m .rows) (s .rows)
 abbrev pub memoryFits : Settings → List ℕ → Bool
 memoryFits s memory = eqb (length memory) (blockLength s)
 
--- The memory has B octets in the eyes of the mapping too. Making an end refuses a mapping that does not fit the settings, so of an end that
--- was made this says no more than `memoryFits`. A mapping's fit can't be an invariant of the end's type, so it is looked at again.
-abbrev pub blockFits : Settings → MappingMeaning → List ℕ → Bool
-blockFits s m memory = memoryFits s memory && mappingFits s m
-
 -- put, where `put` frames of the block are in the memory: the first check that fails
 abbrev pub putRefusal : Settings → CodeMeaning → ℕ → List ℕ → List ℕ → Option PutFault
 putRefusal s code put memory frame =
@@ -56,8 +51,13 @@ putRefusal s code put memory frame =
     ) (Some put-fault.the-variants.Memory)
 
 -- draw, likewise
-abbrev pub drawRefusal : Settings → MappingMeaning → ℕ → List ℕ → Option DrawFault
-drawRefusal s m put memory =
-    cond (blockFits s m memory) (
+abbrev pub drawRefusal : Settings → ℕ → List ℕ → Option DrawFault
+drawRefusal s put memory =
+    cond (memoryFits s memory) (
     cond (ltb put (s .rows)) (Some draw-fault.the-variants.Unfilled) None
     ) (Some draw-fault.the-variants.Memory)
+
+-- draw, of any sender and any mapping: where the mapping does not fit, no memory is one of B octets for it. Making a sender refuses such a
+-- mapping, so of a sender that was made this is `drawRefusal`; a mapping's fit can't be an invariant of the sender's type.
+abbrev pub drawRefusalBy : Settings → MappingMeaning → ℕ → List ℕ → Option DrawFault
+drawRefusalBy s m put memory = cond (mappingFits s m) (drawRefusal s put memory) (Some draw-fault.the-variants.Memory)

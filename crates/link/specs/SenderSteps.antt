@@ -13,7 +13,7 @@ use Rattle.code.specs.Meaning.{CodeMeaning}
 use Rattle.mapping.specs.Meaning.{MappingMeaning}
 use Rattle.link.specs.Frames.{EncodedFrame, withRow}
 use Rattle.link.specs.Line.{lineLength, blockLine}
-use Rattle.link.specs.Refusal.{putRefusal, drawRefusal}
+use Rattle.link.specs.Refusal.{putRefusal, drawRefusalBy}
 use Rattle.link.specs.declared.fault.PutFault.{PutFault}
 use Rattle.link.specs.declared.fault.DrawFault.{DrawFault}
 use Rattle.link.specs.declared.state.SenderState.{SenderState}
@@ -42,7 +42,7 @@ drawnOn s a n = cond (ltb (a .drawn + n) (lineLength s)) (record { put = a .put;
 
 -- An accepted draw: the next n octets of the line, until the output or the block ends; the rest of the output is left.
 pub record Drawn (s : Settings) (m : MappingMeaning) (a : SenderState) (memory out : List ℕ) (n : ℕ) (b : SenderState) (out' : List ℕ) : Type 0 where
-  pub accepted : drawRefusal s m (a .put) memory ≡ None
+  pub accepted : drawRefusalBy s m (a .put) memory ≡ None
   pub answer : n ≡ min (length out) (lineLength s - a .drawn)
   pub written : out' ≡ take n (drop (a .drawn) (blockLine s m memory)) ++ drop n out
   pub after : b ≡ drawnOn s a n
@@ -50,4 +50,4 @@ pub record Drawn (s : Settings) (m : MappingMeaning) (a : SenderState) (memory o
 -- a draw: before, the output, its answer, after, the output after; refused, nothing is changed
 abbrev pub DrawStep : Settings → MappingMeaning → SenderState → List ℕ → List ℕ → Result ℕ DrawFault → SenderState → List ℕ → Type 0
 DrawStep s m a memory out (Ok n) b out' = Drawn s m a memory out n b out'
-DrawStep s m a memory out (Err fault) b out' = (drawRefusal s m (a .put) memory ≡ Some fault) × (b ≡ a) × (out' ≡ out)
+DrawStep s m a memory out (Err fault) b out' = (drawRefusalBy s m (a .put) memory ≡ Some fault) × (b ≡ a) × (out' ≡ out)

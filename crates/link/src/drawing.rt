@@ -6,7 +6,7 @@ ghost use lib.ListN.{length};
 ghost use Rattle.settings.specs.Lengths.{blockLength};
 ghost use Rattle.marker.specs.Marker.{marker};
 ghost use Rattle.link.specs.Line.{lineLength};
-ghost use Rattle.link.specs.Pieces.{MarkerWritten, PieceWritten, LineWritten};
+ghost use Rattle.link.specs.Pieces.{MarkerWritten, PieceWritten, BlockLineWritten};
 ghost use Rattle.link.specs.Refusal.{mappingFits};
 use mapping::Mapping;
 use marker::write_marker;
@@ -75,7 +75,7 @@ pub(crate) fn write_line_from<M: Mapping>(
     out: &mut [u8],
 ) -> usize
     requires { ⌜ mappingFits (now settings) (M·Mapping .meaning (now mapping)) ≡ true ⌝ ∗ ⌜ length (now memory) ≡ blockLength (now settings) ⌝ ∗ ⌜ place < lineLength (now settings) ⌝ }
-    ensures { λ r. ⌜ LineWritten (now (settings .entry)) (M·Mapping .meaning (now (mapping .entry))) (now (memory .entry)) place r (now (out .entry)) (now (out .exit)) ⌝ }
+    ensures { λ r. ⌜ BlockLineWritten (now (settings .entry)) (M·Mapping .meaning (now (mapping .entry))) (now (memory .entry)) place r (now (out .entry)) (now (out .exit)) ⌝ }
 {
     let size = out.len().min(line_length(settings) - place);
     let mut written = 0;

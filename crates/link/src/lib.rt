@@ -4,9 +4,11 @@ mod encoding;
 mod fault;
 mod sender;
 mod state;
+mod theorems;
 
 pub use fault::DrawFault;
 pub use fault::MakingFault;
 pub use fault::PutFault;
 pub use sender::Sender;
 pub use state::SenderState;
+pub use theorems::sender_laws_stand;
