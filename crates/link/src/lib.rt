@@ -4,6 +4,8 @@ mod encoding;
 mod fault;
 mod sender;
 mod state;
+#[cfg(test)]
+mod tests;
 mod theorems;
 
 pub use fault::DrawFault;
