@@ -1,0 +1,9 @@
+pub mod Lengths
+pub mod Joined
+pub mod RowWords
+pub mod Rows
+pub mod Tables
+pub mod Pieces
+pub mod Subframes
+pub mod LineSent
+pub mod Refused

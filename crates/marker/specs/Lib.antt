@@ -1,0 +1,3 @@
+pub mod Marker
+pub mod Reading
+pub mod Theorems
