@@ -1,3 +1,4 @@
 pub mod Noted
 pub mod List
 pub mod Place
+pub mod Order

@@ -1,6 +1,14 @@
 // The worst list: the greatest of the records noted, each once, greatest first, over slots that the caller supplies.
 mod insertion;
+mod kinds;
 mod list;
+mod noting;
+
+pub use kinds::MarkerRecord;
+pub use kinds::RowRecord;
+pub use noting::note_marker;
+pub use noting::note_row;
+pub use noting::orders_stand;
 
 // A list in the first `used` of the slots, greatest first. What the slots behind it hold is of no account.
 #[derive(Drop)]
