@@ -78,3 +78,11 @@ pub stands-records : {X : Type 0} (xs before after : List X) (used : ℕ) → St
 stands-records xs before after used h =
     let e : take used after ≡ xs = ap (λ t. take used t) (h .front) ∙ take-at xs _ used (sym (h .count)) in
     (e, h .front ∙ ap (λ t. t ++ drop (length t) before) (sym e))
+
+-- a record noted among the first n slots, where n is the list's own length, is noted in the list
+pub noted-records : {X : Type 0} (cmp : X → X → Ordering) (x : X) (before after : List X) (used n used′ : ℕ) → n ≡ length (take used before)
+    → Stands (noted cmp (length before) x (take n before)) before after used′
+    → (take used′ after ≡ noted cmp (length before) x (take used before)) × (after ≡ take used′ after ++ drop (length (take used′ after)) before)
+noted-records cmp x before after used n used′ e h =
+    let stood = stands-records _ before after used′ h in
+    (stood .0 ∙ ap (λ t. noted cmp (length before) x t) (take-own-length before used n e .1), stood .1)

@@ -2,3 +2,4 @@ pub mod Noted
 pub mod List
 pub mod Place
 pub mod Order
+pub mod Worst

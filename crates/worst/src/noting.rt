@@ -1,7 +1,7 @@
 // Noting rows and markers: the worst list at the two kinds of record, with their orders in numbers.
 ghost use mathlib.Core.Path.{_≡_};
 ghost use denote.Ref.{name};
-ghost use Rattle.worst.specs.List.{Notes};
+ghost use Rattle.worst.specs.List.{Notes, KeepsWorst};
 ghost use Rattle.worst.specs.Order.{rowOrder, markerOrder, TotalOrder};
 use crate::MarkerRecord;
 use crate::RowRecord;
@@ -12,6 +12,7 @@ use crate::kinds::RowRecordOrd;
 // Notes a row: more octets altered are worse, and of as many the later row.
 pub fn note_row(list: &mut WorstList<'_, RowRecord>, record: RowRecord)
     ensures told { λ _. ⌜ Notes rowOrder «record» (now (list .entry)) (now (list .exit)) ⌝ }
+    ensures worst { λ _. ⌜ KeepsWorst rowOrder «record» (now (list .entry)) (now (list .exit)) ⌝ }
     ensures lent { λ _. ⌜ name (now (list .exit) .slots) ≡ name (now (list .entry) .slots) ⌝ }
 {
     list.note(record);
@@ -20,6 +21,7 @@ pub fn note_row(list: &mut WorstList<'_, RowRecord>, record: RowRecord)
 // Notes a marker: more digits wrong are worse, and of as many the higher count.
 pub fn note_marker(list: &mut WorstList<'_, MarkerRecord>, record: MarkerRecord)
     ensures told { λ _. ⌜ Notes markerOrder «record» (now (list .entry)) (now (list .exit)) ⌝ }
+    ensures worst { λ _. ⌜ KeepsWorst markerOrder «record» (now (list .entry)) (now (list .exit)) ⌝ }
     ensures lent { λ _. ⌜ name (now (list .exit) .slots) ≡ name (now (list .entry) .slots) ⌝ }
 {
     list.note(record);

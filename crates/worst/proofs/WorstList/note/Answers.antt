@@ -1,8 +1,6 @@
-use mathlib.Core.Path.{_∙_, ap}
 use borrow.Author.Needs.{needs}
-use lib.ListN.{length}
-use Rattle.worst.specs.Noted.{noted}
-use Rattle.worst.proofs.Placing.{take-own-length, stands-records}
+use Rattle.worst.proofs.Placing.{take-own-length, noted-records}
+use Rattle.worst.proofs.WorstSteps.{worst-records}
 use Rattle.worst.proofs.WorstList.note.Needs as need
 
 pub insert-self-requires : need.insert-self-requires
@@ -10,13 +8,20 @@ insert-self-requires g c κs = take-own-length (c .args .self .now .slots .now) 
 
 pub returns : need.returns
 returns g c =
+    let before = c .args .self .now in
+    let after = c .insert-self .last .slots in
     record {
       told = λ o.
-          let own = take-own-length (c .args .self .now .slots .now) (c .args .self .now .used) (c .len-n .result) (c .len-n .ensures) .1 in
-          let stood = stands-records _ (c .args .self .now .slots .now) (c .insert-self .last .slots) (c .insert-self .result) (c .insert-self .ensures o) in
-          record {
-            records-are = stood .0 ∙ ap (λ t. noted (o .cmp) (length (c .args .self .now .slots .now)) (c .args .«record») t) own;
-            slots-are = stood .1;
-          };
+          let h =
+          noted-records (o .cmp) (c .args .«record») (before .slots .now) after (before .used) (c .len-n .result) (c .insert-self .result) (c .len-n .ensures)
+          (c .insert-self .ensures o)
+          in
+          record { records-are = h .0; slots-are = h .1 };
+      worst = λ o xs g′.
+          let h =
+          noted-records (o .cmp) (c .args .«record») (before .slots .now) after (before .used) (c .len-n .result) (c .insert-self .result) (c .len-n .ensures)
+          (c .insert-self .ensures o)
+          in
+          worst-records o (c .args .«record») xs (before .slots .now) after (before .used) (c .insert-self .result) (c .insert-self .kept .slots) (h .0) g′;
       lent = search needs;
     }
