@@ -3,9 +3,21 @@ mod insertion;
 mod kinds;
 mod list;
 mod noting;
+#[cfg(test)]
+mod tests;
 
 pub use kinds::MarkerRecord;
+pub use kinds::MarkerRecordDebug;
+pub use kinds::MarkerRecordEq;
+pub use kinds::MarkerRecordOrd;
+pub use kinds::MarkerRecordPartialEq;
+pub use kinds::MarkerRecordPartialOrd;
 pub use kinds::RowRecord;
+pub use kinds::RowRecordDebug;
+pub use kinds::RowRecordEq;
+pub use kinds::RowRecordOrd;
+pub use kinds::RowRecordPartialEq;
+pub use kinds::RowRecordPartialOrd;
 pub use noting::note_marker;
 pub use noting::note_row;
 pub use noting::orders_stand;
