@@ -10,21 +10,21 @@ use crate::kinds::MarkerRecordOrd;
 use crate::kinds::RowRecordOrd;
 
 // Notes a row: more octets altered are worse, and of as many the later row.
-pub fn note_row(list: &mut WorstList<'_, RowRecord>, record: RowRecord)
-    ensures told { λ _. ⌜ Notes rowOrder «record» (now (list .entry)) (now (list .exit)) ⌝ }
-    ensures worst { λ _. ⌜ KeepsWorst rowOrder «record» (now (list .entry)) (now (list .exit)) ⌝ }
-    ensures lent { λ _. ⌜ name (now (list .exit) .slots) ≡ name (now (list .entry) .slots) ⌝ }
+pub fn note_row(rows: &mut WorstList<'_, RowRecord>, record: RowRecord)
+    ensures told { λ _. ⌜ Notes rowOrder «record» (now (rows .entry)) (now (rows .exit)) ⌝ }
+    ensures worst { λ _. ⌜ KeepsWorst rowOrder «record» (now (rows .entry)) (now (rows .exit)) ⌝ }
+    ensures lent { λ _. ⌜ name (now (rows .exit) .slots) ≡ name (now (rows .entry) .slots) ⌝ }
 {
-    list.note(record);
+    rows.note(record);
 }
 
 // Notes a marker: more digits wrong are worse, and of as many the higher count.
-pub fn note_marker(list: &mut WorstList<'_, MarkerRecord>, record: MarkerRecord)
-    ensures told { λ _. ⌜ Notes markerOrder «record» (now (list .entry)) (now (list .exit)) ⌝ }
-    ensures worst { λ _. ⌜ KeepsWorst markerOrder «record» (now (list .entry)) (now (list .exit)) ⌝ }
-    ensures lent { λ _. ⌜ name (now (list .exit) .slots) ≡ name (now (list .entry) .slots) ⌝ }
+pub fn note_marker(markers: &mut WorstList<'_, MarkerRecord>, record: MarkerRecord)
+    ensures told { λ _. ⌜ Notes markerOrder «record» (now (markers .entry)) (now (markers .exit)) ⌝ }
+    ensures worst { λ _. ⌜ KeepsWorst markerOrder «record» (now (markers .entry)) (now (markers .exit)) ⌝ }
+    ensures lent { λ _. ⌜ name (now (markers .exit) .slots) ≡ name (now (markers .entry) .slots) ⌝ }
 {
-    list.note(record);
+    markers.note(record);
 }
 
 // Rows and markers are totally ordered.
