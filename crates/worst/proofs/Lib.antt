@@ -1,0 +1,4 @@
+pub mod Places
+pub mod Placing
+pub mod Orders
+pub mod WorstSteps

@@ -1,0 +1,5 @@
+pub mod Noted
+pub mod List
+pub mod Place
+pub mod Order
+pub mod Worst

@@ -1,0 +1,34 @@
+// Noting rows and markers: the worst list at the two kinds of record, with their orders in numbers.
+ghost use mathlib.Core.Path.{_≡_};
+ghost use denote.Ref.{name};
+ghost use Rattle.worst.specs.List.{Notes, KeepsWorst};
+ghost use Rattle.worst.specs.Order.{rowOrder, markerOrder, TotalOrder};
+use crate::MarkerRecord;
+use crate::RowRecord;
+use crate::WorstList;
+use crate::kinds::MarkerRecordOrd;
+use crate::kinds::RowRecordOrd;
+
+// Notes a row: more octets altered are worse, and of as many the later row.
+pub fn note_row(rows: &mut WorstList<'_, RowRecord>, record: RowRecord)
+    ensures told { λ _. ⌜ Notes rowOrder «record» (now (rows .entry)) (now (rows .exit)) ⌝ }
+    ensures worst { λ _. ⌜ KeepsWorst rowOrder «record» (now (rows .entry)) (now (rows .exit)) ⌝ }
+    ensures lent { λ _. ⌜ name (now (rows .exit) .slots) ≡ name (now (rows .entry) .slots) ⌝ }
+{
+    rows.note(record);
+}
+
+// Notes a marker: more digits wrong are worse, and of as many the higher count.
+pub fn note_marker(markers: &mut WorstList<'_, MarkerRecord>, record: MarkerRecord)
+    ensures told { λ _. ⌜ Notes markerOrder «record» (now (markers .entry)) (now (markers .exit)) ⌝ }
+    ensures worst { λ _. ⌜ KeepsWorst markerOrder «record» (now (markers .entry)) (now (markers .exit)) ⌝ }
+    ensures lent { λ _. ⌜ name (now (markers .exit) .slots) ≡ name (now (markers .entry) .slots) ⌝ }
+{
+    markers.note(record);
+}
+
+// Rows and markers are totally ordered.
+pub fn orders_stand()
+    ensures rows { λ _. ⌜ TotalOrder rowOrder ⌝ }
+    ensures markers { λ _. ⌜ TotalOrder markerOrder ⌝ }
+{}
