@@ -1,69 +1,72 @@
 #!/usr/bin/env python3
-"""The line once more, written from docs/FORMAT.md alone: frames encoded, mapped, randomized, cut into subframes behind their markers.
+"""Prints what the tests of crates/link must find: for each case the digest of a line, its octets and the draws refused.
 
-    compare/line.py          prints, for each case, the length and the digest of two blocks' line
-    compare/line.py zero     prints how the line of zero frames, randomized, begins
-"""
-import sys
+Written apart from the verified code: the whole line is made as one list by the rules of docs/FORMAT.md, with no memory, and is then
+cut as the draws of the tests cut it. The code is bare, so a frame is its row.
 
-from o3k import encoded, marker, sequence, sources
+    depth rows symbol subframe-rows step randomized: digest octets refused"""
 
-# code, depth, rows, symbol, subframe rows, step (0: the block mapping), randomized
-CASES = [
-    ("rs16", 1, 2, 5, 1, 0, False),
-    ("rs16", 5, 4, 15, 2, 0, True),
-    ("rs16", 3, 6, 17, 3, 7, True),
-    ("bare", 8, 3, 1, 1, 200, False),
-    ("bare", 2, 5, 255, 5, 0, True),
-]
+CASES = [(1, 2, 5, 1, 0, 0), (2, 12, 17, 3, 0, 1), (3, 4, 9, 2, 7, 1), (5, 2, 255, 2, 200, 0), (8, 3, 2040, 1, 0, 1)]
+BLOCKS, TURNS = 2, 400
+DIGEST_START, DIGEST_FACTOR = 0xCBF29CE484222325, 0x100000001B3
 
 
-def block(code, depth, rows, symbol, sub, step, randomized, frames):
-    memory = [octet for frame in frames for octet in encoded(code, depth, frame)]
-    data = [memory[q] for q in sources(depth, rows, symbol, step)]
+def sequence(length):
+    digits = [1] * 8
+    while len(digits) < 8 * length:
+        m = len(digits) - 8
+        digits.append((digits[m + 7] + digits[m + 5] + digits[m + 3] + digits[m]) % 2)
+    return [int("".join(map(str, digits[8 * p : 8 * p + 8])), 2) for p in range(length)]
+
+
+def marker(count):
+    field = f"{count:023b}"
+    field += str(field.count("1") % 2)
+    return list(bytes.fromhex("1ACFFC1D")) + [int(field[i : i + 8], 2) for i in (0, 8, 16)]
+
+
+def block_line(case, rows):
+    depth, n, symbol, subframe_rows, step, randomized = case
+    columns = 255 * depth // symbol
+    data = []
+    for s in range(n * columns):
+        row, column = s % n, s // n
+        if step:
+            column = (column + row * step) % columns
+        data += rows[row][column * symbol : (column + 1) * symbol]
     if randomized:
-        data = [a ^ b for a, b in zip(data, sequence(len(data)))]
-    size = 255 * depth * sub
-    line = []
-    for count in range(rows // sub):
-        line += marker(count) + data[count * size:(count + 1) * size]
-    return line
+        data = [x ^ y for x, y in zip(data, sequence(len(data)))]
+    size = 255 * depth * subframe_rows
+    return [x for j in range(n // subframe_rows) for x in marker(j) + data[j * size : (j + 1) * size]]
 
 
-def digest(octets):
-    total = 0xCBF29CE484222325
-    for octet in octets:
-        total = (total ^ octet) * 0x100000001B3 & 0xFFFFFFFFFFFFFFFF
-    return total
+def case_figures(case):
+    depth, n = case[0], case[1]
+    number, digest, octets, refused = 0x1ACFFC1D, DIGEST_START, 0, 0
+    for _ in range(BLOCKS):
+        rows = []
+        for _ in range(n):
+            row = []
+            for _ in range(255 * depth):
+                number ^= number << 13 & 0xFFFFFFFF
+                number ^= number >> 17
+                number ^= number << 5 & 0xFFFFFFFF
+                row.append(number >> 24)
+            rows.append(row)
+        line = block_line(case, rows)
+        for octet in line:
+            digest = (digest ^ octet) * DIGEST_FACTOR % 2**64
+        octets += len(line)
+        left = len(line)
+        for turn in range(TURNS):
+            if left == 0:
+                refused += 1
+            else:
+                left -= min(left, (turn * 41 + 1) % 127)
+        assert left == 0
+    return digest, octets, refused
 
 
-def frames_of(number, length):
-    """The first octets of the numbers of a generator (xorshift, 32 digits), and its last number."""
-    out = []
-    for _ in range(length):
-        number ^= number << 13 & 0xFFFFFFFF
-        number ^= number >> 17
-        number ^= number << 5 & 0xFFFFFFFF
-        out.append(number >> 24)
-    return out, number
-
-
-def main():
-    for case in CASES:
-        code, depth, rows = case[0], case[1], case[2]
-        number, line = 0x1ACFFC1D, []
-        for _ in range(2):
-            frames = []
-            for _ in range(rows):
-                frame, number = frames_of(number, (223 if code == "rs16" else 255) * depth)
-                frames.append(frame)
-            line += block(*case, frames)
-        print("%s %d %d %d %d %d %s: %d octets, %016x" % (*case[:6], "randomized" if case[6] else "plain", len(line), digest(line)))
-
-
-if __name__ == "__main__":
-    if sys.argv[1:] == ["zero"]:
-        line = block("rs16", 1, 2, 5, 1, 0, True, [[0] * 223] * 2)
-        print("".join("%02X" % octet for octet in line[:12]))
-    else:
-        main()
+for case in CASES:
+    digest, octets, refused = case_figures(case)
+    print(" ".join(map(str, case)) + f": {digest:016x} {octets} {refused}")

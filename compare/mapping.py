@@ -7,9 +7,25 @@
 import subprocess
 import sys
 
-from o3k import sequence, sources
-
 CASES = [(1, 2, 5, 0), (1, 2, 5, 1), (5, 64, 5, 0), (5, 64, 5, 7), (4, 10, 17, 61), (2, 3, 255, 255), (3, 1, 765, 2), (8, 100, 1, 200), (8, 512, 8, 0)]
+
+
+def sequence():
+    digits = [1] * 8
+    for m in range(255 * 8 - 8):
+        digits.append((digits[m + 7] + digits[m + 5] + digits[m + 3] + digits[m]) % 2)
+    return [int("".join(map(str, digits[8 * p:8 * p + 8])), 2) for p in range(255)]
+
+
+def sources(depth, rows, symbol, step):
+    """Where each line place comes from, row by row and symbol by symbol: the line takes one symbol of each row in turn."""
+    columns = 255 * depth // symbol
+    out = []
+    for turn in range(columns):
+        for row in range(rows):
+            first = row * 255 * depth + (turn + row * step) % columns * symbol
+            out.extend(range(first, first + symbol))
+    return out
 
 
 def digest(line):
@@ -20,7 +36,7 @@ def digest(line):
 
 
 def lines():
-    mask = sequence(255)
+    mask = sequence()
     for depth, rows, symbol, step in CASES:
         size = 255 * depth * rows
         memory = [(q * 2654435761 & (1 << 64) - 1) // 65536 % 256 for q in range(size)]

@@ -1,4 +1,4 @@
-// The sender run: whole blocks drawn in pieces of awkward sizes, against the figures of tools/line_reference.py.
+// The sender run: whole blocks drawn in pieces of awkward sizes, against the figures of compare/line.py.
 use crate::Sender;
 use code::Bare;
 use code::BareCode;
