@@ -3,6 +3,7 @@ ghost use mathlib.Core.Path.{_≡_};
 ghost use denote.Ref.{name};
 ghost use Rattle.worst.specs.List.{Notes, KeepsWorst};
 ghost use Rattle.worst.specs.Order.{rowOrder, markerOrder, TotalOrder};
+ghost use Rattle.worst.specs.Worst.{OneWorst};
 use crate::MarkerRecord;
 use crate::RowRecord;
 use crate::WorstList;
@@ -31,4 +32,10 @@ pub fn note_marker(markers: &mut WorstList<'_, MarkerRecord>, record: MarkerReco
 pub fn orders_stand()
     ensures rows { λ _. ⌜ TotalOrder rowOrder ⌝ }
     ensures markers { λ _. ⌜ TotalOrder markerOrder ⌝ }
+{}
+
+// The same rows or markers, noted in whatever order and however often, give the same list.
+pub fn lists_agree()
+    ensures rows { λ _. ⌜ OneWorst rowOrder ⌝ }
+    ensures markers { λ _. ⌜ OneWorst markerOrder ⌝ }
 {}
