@@ -20,16 +20,16 @@ pub worst-of-none : {X : Type 0} (cmp : X → X → Ordering) (n : ℕ) → Wors
 worst-of-none cmp n = record { within = omega arith; descending = tt; among = tt; missing = tt }
 
 module _ {X : Type 0} {R : X → X → Ordering → Type 0} (o : Total R) where
-  equal-itself : (x : X) → o .cmp x x ≡ Equal
+  pub equal-itself : (x : X) → o .cmp x x ≡ Equal
   equal-itself x = (elim (o .cmp x x) as (λ q. q ≡ reversed q → q ≡ Equal) [ Less ↦ λ p. cc | Equal ↦ λ p. refl | Greater ↦ λ p. cc ]) (o .flip x x)
 
-  below-turned : (x y : X) → o .cmp x y ≡ Less → o .cmp y x ≡ Greater
+  pub below-turned : (x y : X) → o .cmp x y ≡ Less → o .cmp y x ≡ Greater
   below-turned x y p = o .flip y x ∙ ap reversed p
 
-  above-turned : (x y : X) → o .cmp x y ≡ Greater → o .cmp y x ≡ Less
+  pub above-turned : (x y : X) → o .cmp x y ≡ Greater → o .cmp y x ≡ Less
   above-turned x y p = o .flip y x ∙ ap reversed p
 
-  above-passed-on : (x y z : X) → o .cmp x y ≡ Greater → o .cmp y z ≡ Greater → o .cmp x z ≡ Greater
+  pub above-passed-on : (x y z : X) → o .cmp x y ≡ Greater → o .cmp y z ≡ Greater → o .cmp x z ≡ Greater
   above-passed-on x y z p q = below-turned z x (o .trans z y x (above-turned y z q) (above-turned x y p))
 
   -- what is above an equal of w is above w
@@ -68,7 +68,7 @@ module _ {X : Type 0} {R : X → X → Ordering → Type 0} (o : Total R) where
       elim (o .cmp x y) as (λ q. Holds (o .cmp) (placedBy (o .cmp) x y ys q) w)
       [ Less ↦ ⊎-elim (λ e. inl e) (λ k. inr (placed-keeps x w ys k)) h | Equal ↦ h | Greater ↦ inr h ]
 
-  above-held : (y w : X) (ys : List X) → All (λ z. o .cmp y z ≡ Greater) ys → Holds (o .cmp) ys w → o .cmp y w ≡ Greater
+  pub above-held : (y w : X) (ys : List X) → All (λ z. o .cmp y z ≡ Greater) ys → Holds (o .cmp) ys w → o .cmp y w ≡ Greater
   above-held y w [] a h = absurd h
   above-held y w (z ∷ ys) a h = ⊎-elim (λ e. above-equal y z w (a .0) e) (λ k. above-held y w ys (a .1) k) h
 

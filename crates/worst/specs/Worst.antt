@@ -28,3 +28,11 @@ pub record WorstOf {X : Type 0} (cmp : X → X → Ordering) (slots : ℕ) (xs y
   pub descending : Descending cmp ys
   pub among : All (Has xs) ys
   pub missing : All (λ x. Holds cmp ys x ⊎ Outdone cmp slots ys x) xs
+
+-- the two lists have the same records, in whatever order and however often
+abbrev pub Alike : {X : Type 0} → List X → List X → Type 0
+Alike xs xs′ = All (Has xs′) xs × All (Has xs) xs′
+
+-- of the same records, in whatever order and however often, there is one worst list
+abbrev pub OneWorst : {X : Type 0} → (X → X → Ordering) → Type 0
+OneWorst {X} cmp = (slots : ℕ) (xs xs′ ys zs : List X) → Alike xs xs′ → WorstOf cmp slots xs ys → WorstOf cmp slots xs′ zs → ys ≡ zs

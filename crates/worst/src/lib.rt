@@ -18,6 +18,7 @@ pub use kinds::RowRecordEq;
 pub use kinds::RowRecordOrd;
 pub use kinds::RowRecordPartialEq;
 pub use kinds::RowRecordPartialOrd;
+pub use noting::lists_agree;
 pub use noting::note_marker;
 pub use noting::note_row;
 pub use noting::orders_stand;

@@ -43,6 +43,7 @@ impl<T: Ord + Copy> WorstList<'_, T> {
     pub fn note(&mut self, record: T)
         ensures told { λ _. ⌜ ((o : Total (T·Ord .orders)) → Notes (o .cmp) «record» (now (self .entry)) (now (self .exit))) ⌝ }
         ensures worst { λ _. ⌜ ((o : Total (T·Ord .orders)) → KeepsWorst (o .cmp) «record» (now (self .entry)) (now (self .exit))) ⌝ }
+        ensures size { λ _. ⌜ length (slotsOf (now (self .exit))) ≡ length (slotsOf (now (self .entry))) ⌝ }
         ensures lent { λ _. ⌜ name (now (self .exit) .slots) ≡ name (now (self .entry) .slots) ⌝ }
     {
         let n = self.len();

@@ -23,5 +23,6 @@ returns g c =
           (c .insert-self .ensures o)
           in
           worst-records o (c .args .«record») xs (before .slots .now) after (before .used) (c .insert-self .result) (c .insert-self .kept .slots) (h .0) g′;
+      size = c .insert-self .kept .slots;
       lent = search needs;
     }

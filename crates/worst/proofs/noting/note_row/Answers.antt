@@ -9,5 +9,6 @@ returns c =
     record {
       told = c .note .ensures .told (lawful _ rowOrder rows-total (λ x y r h. grind (arith, tells)));
       worst = c .note .ensures .worst (lawful _ rowOrder rows-total (λ x y r h. grind (arith, tells)));
+      size = c .note .ensures .size;
       lent = c .note .ensures .lent;
     }
