@@ -16,7 +16,7 @@ slotsOf w = now (w .slots)
 abbrev pub recordsOf : {X : Type 0} → WorstList X → List X
 recordsOf w = take (w .used) (slotsOf w)
 
--- x is noted: the records are those of `noted`, as far as the slots go, and the slots behind them hold what they held
+-- x is noted: the records are what `noted` gives for so many slots, and the slots behind them hold what they held
 pub record Notes {X : Type 0} (cmp : X → X → Ordering) (x : X) (before after : WorstList X) : Type 0 where
   pub records-are : recordsOf after ≡ noted cmp (length (slotsOf before)) x (recordsOf before)
   pub slots-are : slotsOf after ≡ recordsOf after ++ drop (length (recordsOf after)) (slotsOf before)
