@@ -7,3 +7,4 @@ pub mod Pieces
 pub mod Subframes
 pub mod LineSent
 pub mod Refused
+pub mod OneRow

@@ -18,6 +18,10 @@ pub record EncodedFrame (depth : ℕ) (code : CodeMeaning) (frame row : List ℕ
   pub begins : take (frameLength depth code) row ≡ frame
   pub words : (w : ℕ) → w < depth → code .Codeword (wordOf depth w row)
 
+-- A frame is encoded as one row and no other. So where frames are said to have a line, they have just one.
+abbrev pub OneRow : ℕ → CodeMeaning → Type 0
+OneRow depth code = (frame a b : List ℕ) → EncodedFrame depth code frame a → EncodedFrame depth code frame b → a ≡ b
+
 -- what the memory has as row i
 abbrev pub rowAt : Settings → ℕ → List ℕ → List ℕ
 rowAt s i memory = take (rowLength s) (drop (i * rowLength s) memory)

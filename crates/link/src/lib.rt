@@ -13,4 +13,5 @@ pub use fault::MakingFault;
 pub use fault::PutFault;
 pub use sender::Sender;
 pub use state::SenderState;
+pub use theorems::one_row_stands;
 pub use theorems::sender_laws_stand;
