@@ -1,7 +1,7 @@
 -- The steps of the loops that sum over a polynomial's coefficients.
 use mathlib.Core.Path.{_≡_, refl, ap, ap₂, sym, _∙_, fun-ext}
-use mathlib.Core.List.{List, [], _∷_}
-use Prim.Native.Nat.{ℕ, suc, _+_, _-_, _≤_, _<_}
+use mathlib.Core.List.{List, _∷_}
+use Prim.Native.Nat.{ℕ, _+_, _-_, _≤_, _<_}
 use native.Mathlib.Nat.{add-zero as plus-zero}
 use native.Mathlib.Omega.{arith}
 use lib.ListN.{length, getD, drop}

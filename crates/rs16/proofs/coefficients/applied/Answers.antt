@@ -1,10 +1,10 @@
 use borrow.Author.Needs.{needs}
 use mathlib.Core.Path.{_≡_, ap, sym, _∙_}
 use mathlib.Core.List.{List}
-use Prim.Native.Nat.{ℕ, _+_, _<_}
+use Prim.Native.Nat.{ℕ, _+_}
 use native.Mathlib.Omega.{arith}
 use lib.ListN.{length, getD, drop}
-use Rattle.rs16.specs.Field.{_⊕_, _⊗_}
+use Rattle.rs16.specs.Field.{_⊕_}
 use Rattle.rs16.specs.Polynomials.{apply}
 use Rattle.rs16.proofs.Polynomials.{add-assoc, add-zero}
 use Rattle.rs16.proofs.Sums.{apply-more, apply-none}

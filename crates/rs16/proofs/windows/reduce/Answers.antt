@@ -1,10 +1,10 @@
 use borrow.Author.Needs.{needs}
-use mathlib.Core.Path.{_≡_, refl, sym, ap, ap₂, _∙_, subst}
+use mathlib.Core.Path.{_≡_, sym, _∙_, subst}
 use mathlib.Core.List.{List, []}
 use Prim.Native.Nat.{ℕ, _+_, _-_, _<_, _≤_}
 use native.Mathlib.Omega.{arith}
 use lib.ListN.{length, getD}
-use Rattle.rs16.specs.Mending.{Monic, Cleared, Pivot}
+use Rattle.rs16.specs.Mending.{Monic, Cleared}
 use Rattle.rs16.proofs.Elimination.{taken-off, cleared-more}
 use Rattle.rs16.proofs.windows.reduce.Needs as need
 use Rattle.rs16.proofs.windows.reduce.Needs.{then-v-ne0·else-has-h-eq0, else-v-ne0}

@@ -1,12 +1,12 @@
 use borrow.Author.Needs.{needs}
-use mathlib.Core.Path.{_≡_, refl, sym, ap, ap₂, _∙_, subst}
-use mathlib.Core.List.{List, [], _∷_, _++_}
-use Prim.Native.Nat.{ℕ, suc, _+_, _-_, _<_, _≤_}
+use mathlib.Core.Path.{_≡_, sym, ap, _∙_, subst}
+use mathlib.Core.List.{List}
+use Prim.Native.Nat.{ℕ, _+_, _-_, _<_, _≤_}
 use native.Mathlib.Omega.{arith}
-use lib.ListN.{length, getD, set, take, drop}
+use lib.ListN.{length, getD}
 use Rattle.std.specs.shelf.Lists.{sum}
 use Rattle.rs16.specs.Field.{_⊗_, inv}
-use Rattle.rs16.specs.Mending.{Monic, Pivot, Cleared, Solution}
+use Rattle.rs16.specs.Mending.{Pivot, Cleared}
 use Rattle.std.proofs.shelf.Lists.{length-set}
 use Rattle.rs16.proofs.Elimination.{unit-monic, new-pivot, pivots-more, flags-more, count-more, count-most, solved}
 use Rattle.rs16.proofs.windows.solution.Needs as need
