@@ -3,9 +3,10 @@ ghost use mathlib.Core.Path.{_≡_};
 ghost use Prim.Native.Nat.{ℕ, _+_, _<_, _≤_};
 ghost use lib.Bits.{bitXor};
 ghost use lib.ListN.{getD, drop};
-ghost use Rattle.rs16.specs.Field.{mul};
+ghost use Rattle.rs16.specs.Field.{mul, pow, alpha};
 ghost use Rattle.rs16.specs.Polynomials.{eval, apply, slope};
 use crate::field::product;
+use crate::field::times_power;
 
 // The value at x.
 pub(crate) fn evaluated(p: &[u8], x: u8) -> u8
@@ -14,6 +15,18 @@ pub(crate) fn evaluated(p: &[u8], x: u8) -> u8
     let mut sum = 0;
     for i in (0..p.len()).rev() {
         sum = p[i] ^ product(x, sum);
+    }
+    sum
+}
+
+// The value at α to the power e.
+pub(crate) fn evaluated_at(p: [u8; 17], e: usize) -> u8
+    requires { ⌜ e < 255 ⌝ }
+    ensures { λ r. ⌜ r ≡ eval p (pow alpha e) ⌝ }
+{
+    let mut sum = 0;
+    for i in (0..17).rev() {
+        sum = p[i] ^ times_power(sum, e);
     }
     sum
 }

@@ -38,6 +38,19 @@ pub fn product(a: u8, b: u8) -> u8
     }
 }
 
+// An element times α to the power e: where one factor stays, its logarithm is found once.
+pub(crate) fn times_power(a: u8, e: usize) -> u8
+    requires { ⌜ e < 255 ⌝ }
+    ensures { λ r. ⌜ r ≡ mul a (pow alpha e) ⌝ }
+{
+    if a == 0 {
+        0
+    } else {
+        let i = logarithm(a);
+        power(i + e)
+    }
+}
+
 // The inverse of an element; of 0 it is 0.
 pub(crate) fn inverse(a: u8) -> u8
     ensures { λ r. ⌜ r ≡ inv a ⌝ }
