@@ -17,7 +17,7 @@ pub(crate) fn power(i: usize) -> u8
 }
 
 // The power of α that an element other than 0 is.
-fn logarithm(a: u8) -> usize
+pub(crate) fn logarithm(a: u8) -> usize
     requires { ⌜ 0 < a ⌝ }
     ensures low { λ r. ⌜ r < 255 ⌝ }
     ensures power { λ r. ⌜ pow alpha r ≡ a ⌝ }

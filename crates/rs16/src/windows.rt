@@ -8,15 +8,19 @@ ghost use Rattle.rs16.specs.Field.{mul};
 ghost use Rattle.rs16.specs.Mending.{Monic, Pivots, Reduces, Solution};
 use crate::coefficients::applied;
 use crate::field::inverse;
+use crate::field::logarithm;
 use crate::field::product;
+use crate::field::times_power;
 
 // A row, plus f times another.
 fn combined(r: [u8; 17], q: [u8; 17], f: u8) -> [u8; 17]
+    requires { ⌜ 0 < f ⌝ }
     ensures { λ a. ⌜ ((k : ℕ) → k < 17 → getD a k 0 ≡ bitXor (getD r k 0) (mul f (getD q k 0))) ⌝ }
 {
+    let e = logarithm(f);
     let mut a = [0; 17];
     for i in 0..17 {
-        a[i] = r[i] ^ product(f, q[i]);
+        a[i] = r[i] ^ times_power(q[i], e);
     }
     a
 }
