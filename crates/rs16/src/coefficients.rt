@@ -31,14 +31,15 @@ pub(crate) fn evaluated_at(p: [u8; 17], e: usize) -> u8
     sum
 }
 
-// The coefficients from one on, each times a syndrome, from syndrome h on: the sum.
-pub(crate) fn applied(p: [u8; 17], first: usize, s: [u8; 32], h: usize) -> u8
-    requires { ⌜ first ≤ 17 ⌝ ∗ ⌜ h < 16 ⌝ }
+// The coefficients from one on, each times a syndrome, from syndrome h on: the sum. Those from `end` on are 0, and passed over.
+pub(crate) fn applied(p: [u8; 17], first: usize, end: usize, s: [u8; 32], h: usize) -> u8
+    requires shape { ⌜ first ≤ end ⌝ ∗ ⌜ end ≤ 17 ⌝ ∗ ⌜ h < 16 ⌝ }
+    requires zeros { ⌜ ((k : ℕ) → end ≤ k → getD p k 0 ≡ 0) ⌝ }
     ensures { λ r. ⌜ r ≡ apply (drop first p) (λ m. getD s (h + m) 0) ⌝ }
 {
     let mut sum = 0;
     let mut at = h;
-    for i in first..17 {
+    for i in first..end {
         sum ^= product(p[i], s[at]);
         at += 1;
     }

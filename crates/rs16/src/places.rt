@@ -65,7 +65,7 @@ pub(crate) fn evaluator_polynomial(p: [u8; 17], s: [u8; 32]) -> [u8; 16]
 {
     let mut o = [0; 16];
     for j in 0..16 {
-        o[j] = applied(p, j + 1, s, 0);
+        o[j] = applied(p, j + 1, 17, s, 0);
     }
     o
 }

@@ -53,7 +53,7 @@ fn reduce(row: [u8; 17], n: usize, rows: &[[u8; 17]], has: &[u8], s: [u8; 32]) -
 {
     let mut r = row;
     for h in 0..16 {
-        let v = applied(r, 0, s, h);
+        let v = applied(r, 0, n + 1, s, h);
         if v != 0 {
             if has[h] == 0 {
                 return Reduced { row: r, upto: h };
@@ -79,7 +79,7 @@ pub(crate) fn solution(s: [u8; 32]) -> [u8; 17]
         if got.upto == 16 {
             return got.row;
         }
-        let v = applied(got.row, 0, s, got.upto);
+        let v = applied(got.row, 0, n + 1, s, got.upto);
         let pivot = multiplied(got.row, inverse(v));
         rows[got.upto] = pivot;
         has[got.upto] = 1;

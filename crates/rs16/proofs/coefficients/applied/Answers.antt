@@ -26,6 +26,6 @@ loop-i-again c =
 
 pub returns : need.returns
 returns c =
-    let size : length (c .args .p) ≡ 17 = search needs in
-    sym (add-zero (c .loop-i .sum)) ∙ ap (λ z. c .loop-i .sum ⊕ z) (sym (apply-none (c .args .p) (c .args .s) (c .loop-i .at) (c .loop-i .i) (omega arith)))
+    sym (add-zero (c .loop-i .sum))
+    ∙ ap (λ z. c .loop-i .sum ⊕ z) (sym (apply-none (c .args .p) (c .args .s) (c .loop-i .at) (c .loop-i .i) (λ k l. c .pre .zeros k (omega arith))))
     ∙ c .loop-i .inv .1

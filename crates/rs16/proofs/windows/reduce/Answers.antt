@@ -9,6 +9,9 @@ use Rattle.rs16.proofs.Elimination.{taken-off, cleared-more}
 use Rattle.rs16.proofs.windows.reduce.Needs as need
 use Rattle.rs16.proofs.windows.reduce.Needs.{then-v-ne0·else-has-h-eq0, else-v-ne0}
 
+pub applied-v-requires : need.applied-v-requires
+applied-v-requires c κs = record { shape = search needs; zeros = λ k l. c .loop-h .inv .1 .above k (omega arith) }
+
 pub loop-h-again : need.loop-h-again
 loop-h-again c =
     let s : List ℕ = c .args .s in

@@ -19,6 +19,11 @@ reduce-got-requires c κs = record {
   pivots = c .loop-n .inv .4;
 }
 
+pub applied-v-requires : need.applied-v-requires
+applied-v-requires c κs =
+    let low : c .reduce-got .result .upto < 16 = omega (arith, c .reduce-got .ensures .bound, c .if-got-eq16 .left) in
+    record { shape = search needs; zeros = λ k l. c .reduce-got .ensures .monic .above k (omega arith) }
+
 pub returns-then-got-eq16 : need.returns-then-got-eq16
 returns-then-got-eq16 c =
     solved 16 (c .args .s) (c .reduce-got .result .row) (c .loop-n .n) (c .reduce-got .ensures .monic)
