@@ -1,4 +1,4 @@
-use mathlib.Core.Path.{_≡_, sym, ap, _∙_}
+use mathlib.Core.Path.{sym, ap, _∙_}
 use Rattle.rs16.specs.Field.{mul, pow, alpha}
 use Rattle.rs16.proofs.Polynomials.{zero-mul, pow-add}
 use Rattle.rs16.proofs.field.times_power.Needs as need
