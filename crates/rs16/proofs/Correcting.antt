@@ -2,7 +2,7 @@
 use mathlib.Core.Path.{_≡_, refl, ap, ap₂, sym, _∙_, subst}
 use mathlib.Core.Bool.{Bool, true, false, not, cond, _&&_}
 use mathlib.Core.List.{List, [], _∷_}
-use mathlib.Core.Logic.{_⊎_, inl, inr}
+use mathlib.Core.Logic.{inl, inr}
 use Prim.Native.Nat.{ℕ, zero, suc, _+_, _-_, _≤_, _<_}
 use native.Mathlib.Nat.{not-suc-le-zero, le-of-suc-le-suc}
 use native.Mathlib.Numerals.{add-one}
@@ -16,7 +16,7 @@ use Rattle.octets.specs.Words.{wordLength}
 use Rattle.octets.proofs.Counting.{count-alike, count-except, except}
 use Rattle.octets.proofs.Octets.{altered-self, differs-same}
 use Rattle.rs16.specs.Field.{_⊕_}
-use Rattle.rs16.specs.Mending.{locator, chosen, change, changed, corrected, Corrects}
+use Rattle.rs16.specs.Mending.{chosen, change, changed, corrected, Corrects}
 use Rattle.rs16.proofs.Chosen.{chosen-grows, chosen-yes}
 use Rattle.rs16.proofs.Mending.{changed-length}
 use Rattle.rs16.proofs.Polynomials.{add-zero, add-self-left}

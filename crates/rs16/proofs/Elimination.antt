@@ -15,7 +15,7 @@ use Rattle.rs16.specs.Field.{_⊕_, _⊗_, IsOctet, inv}
 use Rattle.rs16.specs.Polynomials.{apply}
 use Rattle.rs16.specs.Mending.{Cleared, Monic, Pivot, Pivots, Solution}
 use Rattle.rs16.proofs.Inverses.{inverse}
-use Rattle.rs16.proofs.Polynomials.{ring, add-zero, add-self, add-comm, add-assoc, add-left-comm, add-self-left, zero-add, mul-assoc, mul-comm, mul-left-comm, mul-add, add-mul, mul-zero, zero-mul, mul-one, octet-add, octet-mul, octet-zero, octet-one}
+use Rattle.rs16.proofs.Polynomials.{ring, add-self, mul-assoc, mul-comm, mul-add, mul-zero, mul-one, octet-add, octet-mul, octet-zero, octet-one}
 
 pub apply-scaled : (a r : List ℕ) (f : ℕ) (S : ℕ → ℕ) → length a ≡ length r
     → ((k : ℕ) → k < length a → getD a k 0 ≡ f ⊗ getD r k 0) → apply a S ≡ f ⊗ apply r S

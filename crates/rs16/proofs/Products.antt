@@ -7,7 +7,7 @@ use Prim.Native.Nat.{ℕ, zero, suc, _+_, _≤_, _<_}
 use native.Mathlib.Nat.{zero-add as zero-plus}
 use native.Mathlib.Numerals.{add-one}
 use native.Mathlib.Omega.{arith}
-use lib.ListN.{length, getD, set, drop, replicate}
+use lib.ListN.{length, getD, drop, replicate}
 use Rattle.std.proofs.shelf.Lists.{ext-getD, getD-past, length-drop}
 use Rattle.std.proofs.shelf.Tests.{cases-lt}
 use Rattle.octets.specs.Words.{wordLength, maxReach}

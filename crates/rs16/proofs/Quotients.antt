@@ -1,17 +1,17 @@
 -- A polynomial divided by one of its linear factors: what the evaluator polynomial gives, and that a product's roots are simple.
 use mathlib.Core.Path.{_≡_, refl, ap, ap₂, sym, _∙_, subst}
 use mathlib.Core.List.{List, [], _∷_}
-use mathlib.Core.Logic.{_⊎_, inl, inr}
+use mathlib.Core.Logic.{inl, inr}
 use Prim.Native.Nat.{ℕ, zero, suc, _+_, _<_}
 use native.Mathlib.Omega.{arith}
 use lib.ListN.{length, getD, drop}
 use Rattle.std.specs.shelf.Lists.{All}
-use Rattle.std.proofs.shelf.Lists.{getD-drop, drop-more}
+use Rattle.std.proofs.shelf.Lists.{getD-drop}
 use Rattle.rs16.specs.Field.{_⊕_, _⊗_, IsOctet}
 use Rattle.rs16.specs.Polynomials.{eval, apply, carry, mulLinear, fromRoots, horner, slope}
 use Rattle.rs16.specs.Mending.{evaluator}
 use Rattle.rs16.proofs.Locators.{mul-not-zero}
-use Rattle.rs16.proofs.Polynomials.{ring, Member, Distinct, add-assoc, add-comm, add-left-comm, add-self, add-self-left, zero-add, add-zero, mul-assoc, mul-comm, mul-left-comm, mul-add, add-mul, mul-zero, zero-mul, octet-add, octet-mul, octet-zero, octet-one, octet-eval, octets-horner, eval-carry, at-root, off-roots, apart, difference}
+use Rattle.rs16.proofs.Polynomials.{ring, Member, Distinct, add-assoc, add-self, add-zero, mul-zero, zero-mul, octet-add, octet-mul, octet-zero, octet-one, octet-eval, octets-horner, eval-carry, at-root, off-roots, apart, difference}
 
 -- ---- the evaluator polynomial
 

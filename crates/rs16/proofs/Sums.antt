@@ -5,9 +5,10 @@ use Prim.Native.Nat.{ℕ, suc, _+_, _-_, _≤_, _<_}
 use native.Mathlib.Nat.{add-zero as plus-zero}
 use native.Mathlib.Omega.{arith}
 use lib.ListN.{length, getD, drop}
-use Rattle.std.proofs.shelf.Lists.{drop-more, drop-all}
+use Rattle.std.proofs.shelf.Lists.{drop-more, drop-all, getD-drop}
 use Rattle.rs16.specs.Field.{_⊕_, _⊗_}
 use Rattle.rs16.specs.Polynomials.{eval, apply, horner}
+use Rattle.rs16.proofs.Polynomials.{zero-mul}
 
 -- one coefficient more, times the syndrome at place a
 pub apply-more : (p s : List ℕ) (a i : ℕ) → i < length p
@@ -17,9 +18,14 @@ apply-more p s a i l =
     ap (λ q. apply q (λ m. getD s (a + m) 0)) (drop-more p i 0 l)
     ∙ ap₂ (λ n f. getD p i 0 ⊗ getD s n 0 ⊕ apply (drop (i + 1) p) f) (plus-zero a) (fun-ext (λ m. ap (λ z. getD s z 0) (omega arith)))
 
-pub apply-none : (p s : List ℕ) (a i : ℕ) → length p ≤ i → apply (drop i p) (λ m. getD s (a + m) 0) ≡ 0
+apply-zeros : (p : List ℕ) (S : ℕ → ℕ) → ((k : ℕ) → getD p k 0 ≡ 0) → apply p S ≡ 0
 unfolding apply
-apply-none p s a i l = ap (λ q. apply q (λ m. getD s (a + m) 0)) (drop-all i p l)
+apply-zeros [] S h = refl
+apply-zeros (c ∷ p) S h = ap₂ (λ a b. a ⊗ S 0 ⊕ b) (h 0) (apply-zeros p (λ m. S (suc m)) (λ k. h (suc k))) ∙ ap (λ z. z ⊕ 0) (zero-mul (S 0))
+
+-- coefficients that are 0 from place i on add nothing
+pub apply-none : (p s : List ℕ) (a i : ℕ) → ((k : ℕ) → i ≤ k → getD p k 0 ≡ 0) → apply (drop i p) (λ m. getD s (a + m) 0) ≡ 0
+apply-none p s a i h = apply-zeros (drop i p) (λ m. getD s (a + m) 0) (λ k. getD-drop i p k 0 ∙ h (i + k) (omega arith))
 
 pub eval-none : (p : List ℕ) (x i : ℕ) → length p ≤ i → 0 ≡ eval (drop i p) x
 unfolding eval

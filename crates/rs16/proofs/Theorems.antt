@@ -3,7 +3,7 @@ use mathlib.Core.Path.{_≡_, refl, sym, _∙_}
 use mathlib.Core.List.{List}
 use Prim.Native.Nat.{ℕ, zero, suc, _*_, _<_}
 use native.Mathlib.Omega.{arith}
-use lib.ListN.{length, getD, replicate}
+use lib.ListN.{length, replicate}
 use Rattle.std.proofs.shelf.Lists.{length-replicate, take-replicate}
 use Rattle.octets.specs.Words.{wordLength, wordPlace, wordOf}
 use Rattle.octets.proofs.Words.{row-from-words, word-from-places}

@@ -1,10 +1,10 @@
 -- Method: how a word is mended. Octets go by their power: octet j of a word has power 254 - j.
 use mathlib.Core.Path.{_≡_}
-use mathlib.Core.Bool.{Bool, true, cond}
+use mathlib.Core.Bool.{Bool, cond}
 use mathlib.Core.List.{List, [], _∷_}
-use Prim.Native.Nat.{ℕ, zero, suc, _+_, _-_, _<_, _≤_}
+use Prim.Native.Nat.{ℕ, zero, suc, _+_, _<_, _≤_}
 use lib.Dec.{eqb}
-use lib.ListN.{length, getD, set, drop}
+use lib.ListN.{length, getD, set}
 use Rattle.std.specs.shelf.Lists.{All}
 use Rattle.octets.specs.Words.{wordLength}
 use Rattle.rs16.specs.Field.{_⊕_, _⊗_, IsOctet, pow, alpha, inv}

@@ -11,8 +11,7 @@ use crate::MendFaultFromSearch;
 use crate::division::checks_of;
 use crate::division::residue_of;
 use crate::field::element_of;
-use crate::field::power;
-use crate::field::product;
+use crate::field::times_power;
 use crate::searching::search_word;
 use crate::weaving::gathered;
 use crate::weaving::store_checks;
@@ -104,10 +103,10 @@ fn value_at(octets: [u8; 32], m: usize) -> u8
     requires { ⌜ m < 32 ⌝ }
     ensures { λ r. ⌜ r ≡ value octets (root m) ⌝ }
 {
-    let x = power(11 * (112 + m) % 255);
+    let e = 11 * (112 + m) % 255;
     let mut sum = 0;
     for octet in &octets {
-        sum = product(sum, x) ^ element_of(*octet);
+        sum = times_power(sum, e) ^ element_of(*octet);
     }
     sum
 }

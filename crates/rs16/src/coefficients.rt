@@ -3,9 +3,10 @@ ghost use mathlib.Core.Path.{_≡_};
 ghost use Prim.Native.Nat.{ℕ, _+_, _<_, _≤_};
 ghost use lib.Bits.{bitXor};
 ghost use lib.ListN.{getD, drop};
-ghost use Rattle.rs16.specs.Field.{mul};
+ghost use Rattle.rs16.specs.Field.{mul, pow, alpha};
 ghost use Rattle.rs16.specs.Polynomials.{eval, apply, slope};
 use crate::field::product;
+use crate::field::times_power;
 
 // The value at x.
 pub(crate) fn evaluated(p: &[u8], x: u8) -> u8
@@ -18,14 +19,27 @@ pub(crate) fn evaluated(p: &[u8], x: u8) -> u8
     sum
 }
 
-// The coefficients from one on, each times a syndrome, from syndrome h on: the sum.
-pub(crate) fn applied(p: [u8; 17], first: usize, s: [u8; 32], h: usize) -> u8
-    requires { ⌜ first ≤ 17 ⌝ ∗ ⌜ h < 16 ⌝ }
+// The value at α to the power e.
+pub(crate) fn evaluated_at(p: [u8; 17], e: usize) -> u8
+    requires { ⌜ e < 255 ⌝ }
+    ensures { λ r. ⌜ r ≡ eval p (pow alpha e) ⌝ }
+{
+    let mut sum = 0;
+    for i in (0..17).rev() {
+        sum = p[i] ^ times_power(sum, e);
+    }
+    sum
+}
+
+// The coefficients from one on, each times a syndrome, from syndrome h on: the sum. Those from `end` on are 0, and passed over.
+pub(crate) fn applied(p: [u8; 17], first: usize, end: usize, s: [u8; 32], h: usize) -> u8
+    requires shape { ⌜ first ≤ end ⌝ ∗ ⌜ end ≤ 17 ⌝ ∗ ⌜ h < 16 ⌝ }
+    requires zeros { ⌜ ((k : ℕ) → end ≤ k → getD p k 0 ≡ 0) ⌝ }
     ensures { λ r. ⌜ r ≡ apply (drop first p) (λ m. getD s (h + m) 0) ⌝ }
 {
     let mut sum = 0;
     let mut at = h;
-    for i in first..17 {
+    for i in first..end {
         sum ^= product(p[i], s[at]);
         at += 1;
     }

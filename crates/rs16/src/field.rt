@@ -17,7 +17,7 @@ pub(crate) fn power(i: usize) -> u8
 }
 
 // The power of α that an element other than 0 is.
-fn logarithm(a: u8) -> usize
+pub(crate) fn logarithm(a: u8) -> usize
     requires { ⌜ 0 < a ⌝ }
     ensures low { λ r. ⌜ r < 255 ⌝ }
     ensures power { λ r. ⌜ pow alpha r ≡ a ⌝ }
@@ -35,6 +35,19 @@ pub fn product(a: u8, b: u8) -> u8
         let i = logarithm(a);
         let j = logarithm(b);
         power(i + j)
+    }
+}
+
+// An element times α to the power e: where one factor stays, its logarithm is found once.
+pub(crate) fn times_power(a: u8, e: usize) -> u8
+    requires { ⌜ e < 255 ⌝ }
+    ensures { λ r. ⌜ r ≡ mul a (pow alpha e) ⌝ }
+{
+    if a == 0 {
+        0
+    } else {
+        let i = logarithm(a);
+        power(i + e)
     }
 }
 

@@ -8,6 +8,7 @@ ghost use Rattle.rs16.specs.Mending.{locator, Values, zeroAt, chosen, evaluato
 ghost use Rattle.rs16.specs.Polynomials.{fromRoots};
 use crate::coefficients::applied;
 use crate::coefficients::evaluated;
+use crate::coefficients::evaluated_at;
 use crate::coefficients::slope_at;
 use crate::coefficients::times_linear;
 use crate::field::inverse;
@@ -37,7 +38,7 @@ pub(crate) fn values_of(p: [u8; 17]) -> [u8; 255]
 {
     let mut values = [0; 255];
     for k in 0..255 {
-        values[k] = evaluated(&p, locator_at(k));
+        values[k] = evaluated_at(p, 11 * k % 255);
     }
     values
 }
@@ -64,7 +65,7 @@ pub(crate) fn evaluator_polynomial(p: [u8; 17], s: [u8; 32]) -> [u8; 16]
 {
     let mut o = [0; 16];
     for j in 0..16 {
-        o[j] = applied(p, j + 1, s, 0);
+        o[j] = applied(p, j + 1, 17, s, 0);
     }
     o
 }

@@ -8,15 +8,19 @@ ghost use Rattle.rs16.specs.Field.{mul};
 ghost use Rattle.rs16.specs.Mending.{Monic, Pivots, Reduces, Solution};
 use crate::coefficients::applied;
 use crate::field::inverse;
+use crate::field::logarithm;
 use crate::field::product;
+use crate::field::times_power;
 
 // A row, plus f times another.
 fn combined(r: [u8; 17], q: [u8; 17], f: u8) -> [u8; 17]
+    requires { ⌜ 0 < f ⌝ }
     ensures { λ a. ⌜ ((k : ℕ) → k < 17 → getD a k 0 ≡ bitXor (getD r k 0) (mul f (getD q k 0))) ⌝ }
 {
+    let e = logarithm(f);
     let mut a = [0; 17];
     for i in 0..17 {
-        a[i] = r[i] ^ product(f, q[i]);
+        a[i] = r[i] ^ times_power(q[i], e);
     }
     a
 }
@@ -49,7 +53,7 @@ fn reduce(row: [u8; 17], n: usize, rows: &[[u8; 17]], has: &[u8], s: [u8; 32]) -
 {
     let mut r = row;
     for h in 0..16 {
-        let v = applied(r, 0, s, h);
+        let v = applied(r, 0, n + 1, s, h);
         if v != 0 {
             if has[h] == 0 {
                 return Reduced { row: r, upto: h };
@@ -75,7 +79,7 @@ pub(crate) fn solution(s: [u8; 32]) -> [u8; 17]
         if got.upto == 16 {
             return got.row;
         }
-        let v = applied(got.row, 0, s, got.upto);
+        let v = applied(got.row, 0, n + 1, s, got.upto);
         let pivot = multiplied(got.row, inverse(v));
         rows[got.upto] = pivot;
         has[got.upto] = 1;

@@ -24,8 +24,8 @@ loop-octet-again c =
     let x : ℕ = root (c .args .m) in
     let s : ℕ = c .loop-octet .sum in
     let e : ℕ = element (getD w i 0) in
-    let is : c .product .result ⊕ c .element-of .result ≡ (s ⊗ x) ⊕ e =
-    ap₂ _⊕_ (c .product .ensures ∙ ap (λ z. s ⊗ z) (c .power-x .ensures ∙ root-power (c .args .m))) (c .element-of .ensures .value) in
+    let is : c .times-power .result ⊕ c .element-of .result ≡ (s ⊗ x) ⊕ e =
+    ap₂ _⊕_ (c .times-power .ensures ∙ ap (λ z. s ⊗ z) (root-power (c .args .m))) (c .element-of .ensures .value) in
     let size : length w ≡ 32 = search needs in
     subst (λ (z : ℕ). IsOctet z × (z ⊗ pow x (length w - (i + 1)) ⊕ value (drop (i + 1) w) x ≡ value w x)) (sym is)
     (octet-add (s ⊗ x) e (octet-mul s x) (element-octet (getD w i 0)), value-more w x s i (omega arith) (c .loop-octet .inv .1))

@@ -1,10 +1,10 @@
 use borrow.Author.Needs.{needs}
 use mathlib.Core.Path.{_≡_, ap, sym, _∙_}
 use mathlib.Core.List.{List}
-use Prim.Native.Nat.{ℕ, _+_, _<_}
+use Prim.Native.Nat.{ℕ, _+_}
 use native.Mathlib.Omega.{arith}
 use lib.ListN.{length, getD, drop}
-use Rattle.rs16.specs.Field.{_⊕_, _⊗_}
+use Rattle.rs16.specs.Field.{_⊕_}
 use Rattle.rs16.specs.Polynomials.{apply}
 use Rattle.rs16.proofs.Polynomials.{add-assoc, add-zero}
 use Rattle.rs16.proofs.Sums.{apply-more, apply-none}
@@ -26,6 +26,6 @@ loop-i-again c =
 
 pub returns : need.returns
 returns c =
-    let size : length (c .args .p) ≡ 17 = search needs in
-    sym (add-zero (c .loop-i .sum)) ∙ ap (λ z. c .loop-i .sum ⊕ z) (sym (apply-none (c .args .p) (c .args .s) (c .loop-i .at) (c .loop-i .i) (omega arith)))
+    sym (add-zero (c .loop-i .sum))
+    ∙ ap (λ z. c .loop-i .sum ⊕ z) (sym (apply-none (c .args .p) (c .args .s) (c .loop-i .at) (c .loop-i .i) (λ k l. c .pre .zeros k (omega arith))))
     ∙ c .loop-i .inv .1

@@ -1,5 +1,5 @@
 use borrow.Author.Needs.{needs}
-use mathlib.Core.Path.{_≡_, ap, sym, _∙_}
+use mathlib.Core.Path.{ap, sym, _∙_}
 use Rattle.rs16.specs.Field.{inv}
 use Rattle.rs16.proofs.Inverses.{inverse-none, inverse-power}
 use Rattle.rs16.proofs.field.inverse.Needs as need

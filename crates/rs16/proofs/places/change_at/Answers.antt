@@ -1,4 +1,4 @@
-use mathlib.Core.Path.{_≡_, ap, ap₂, _∙_}
+use mathlib.Core.Path.{ap, ap₂, _∙_}
 use Rattle.rs16.specs.DualBasis.{lineOctet}
 use Rattle.rs16.specs.Field.{_⊗_, inv}
 use Rattle.rs16.specs.Mending.{change}

@@ -1,11 +1,11 @@
 use borrow.Author.Needs.{needs}
-use mathlib.Core.Path.{_≡_, ap, sym, _∙_, subst}
+use mathlib.Core.Path.{_≡_, sym, subst}
 use mathlib.Core.List.{List}
-use Prim.Native.Nat.{ℕ, _+_, _<_, _≤_}
+use Prim.Native.Nat.{ℕ, _+_, _<_}
 use native.Mathlib.Omega.{arith}
 use lib.ListN.{length, getD}
 use Rattle.std.proofs.shelf.Tests.{eq-eqb, ne-eqb}
-use Rattle.rs16.specs.Mending.{zeroAt, chosen, locator}
+use Rattle.rs16.specs.Mending.{zeroAt, chosen}
 use Rattle.rs16.specs.Polynomials.{fromRoots}
 use Rattle.rs16.proofs.Products.{product-none, product-more, product-same}
 use Rattle.rs16.proofs.Quotients.{Alike}

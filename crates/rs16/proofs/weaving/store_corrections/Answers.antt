@@ -1,10 +1,9 @@
-use borrow.Author.Needs.{needs}
-use mathlib.Core.Path.{_≡_, refl, ap, sym, _∙_, subst}
+use mathlib.Core.Path.{_≡_, ap, sym, _∙_}
 use mathlib.Core.List.{List}
-use Prim.Native.Nat.{ℕ, _+_, _*_, _<_, _≤_}
+use Prim.Native.Nat.{ℕ, _<_}
 use native.Mathlib.Omega.{arith}
 use lib.ListN.{length, getD, set}
-use Rattle.octets.specs.Words.{wordLength, wordPlace, wordOf, KeepsOthers}
+use Rattle.octets.specs.Words.{wordLength, wordPlace, wordOf}
 use Rattle.octets.proofs.Words.{keeps-self, keeps-set, place-below}
 use Rattle.rs16.specs.Mending.{corrected}
 use Rattle.rs16.proofs.Correcting.{corrected-none, corrected-more}

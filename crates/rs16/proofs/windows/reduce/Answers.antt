@@ -1,13 +1,16 @@
 use borrow.Author.Needs.{needs}
-use mathlib.Core.Path.{_≡_, refl, sym, ap, ap₂, _∙_, subst}
+use mathlib.Core.Path.{_≡_, sym, _∙_, subst}
 use mathlib.Core.List.{List, []}
 use Prim.Native.Nat.{ℕ, _+_, _-_, _<_, _≤_}
 use native.Mathlib.Omega.{arith}
 use lib.ListN.{length, getD}
-use Rattle.rs16.specs.Mending.{Monic, Cleared, Pivot}
+use Rattle.rs16.specs.Mending.{Monic, Cleared}
 use Rattle.rs16.proofs.Elimination.{taken-off, cleared-more}
 use Rattle.rs16.proofs.windows.reduce.Needs as need
 use Rattle.rs16.proofs.windows.reduce.Needs.{then-v-ne0·else-has-h-eq0, else-v-ne0}
+
+pub applied-v-requires : need.applied-v-requires
+applied-v-requires c κs = record { shape = search needs; zeros = λ k l. c .loop-h .inv .1 .above k (omega arith) }
 
 pub loop-h-again : need.loop-h-again
 loop-h-again c =

@@ -1,6 +1,5 @@
-use Prim.Native.Nat.{ℕ, _<_}
 use mathlib.Core.Path.{_≡_}
-use lib.ListN.{length, getD}
+use lib.ListN.{length}
 use Rattle.rs16.specs.Mending.{Monic, Cleared}
 use Rattle.rs16.proofs.windows.reduce.Given as given
 

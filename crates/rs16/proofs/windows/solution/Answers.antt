@@ -1,12 +1,12 @@
 use borrow.Author.Needs.{needs}
-use mathlib.Core.Path.{_≡_, refl, sym, ap, ap₂, _∙_, subst}
-use mathlib.Core.List.{List, [], _∷_, _++_}
-use Prim.Native.Nat.{ℕ, suc, _+_, _-_, _<_, _≤_}
+use mathlib.Core.Path.{_≡_, sym, ap, _∙_, subst}
+use mathlib.Core.List.{List}
+use Prim.Native.Nat.{ℕ, _+_, _-_, _<_, _≤_}
 use native.Mathlib.Omega.{arith}
-use lib.ListN.{length, getD, set, take, drop}
+use lib.ListN.{length, getD}
 use Rattle.std.specs.shelf.Lists.{sum}
 use Rattle.rs16.specs.Field.{_⊗_, inv}
-use Rattle.rs16.specs.Mending.{Monic, Pivot, Cleared, Solution}
+use Rattle.rs16.specs.Mending.{Pivot, Cleared}
 use Rattle.std.proofs.shelf.Lists.{length-set}
 use Rattle.rs16.proofs.Elimination.{unit-monic, new-pivot, pivots-more, flags-more, count-more, count-most, solved}
 use Rattle.rs16.proofs.windows.solution.Needs as need
@@ -18,6 +18,11 @@ reduce-got-requires c κs = record {
   monic = unit-monic 16 (c .loop-n .n) (c .loop-n-test .taken);
   pivots = c .loop-n .inv .4;
 }
+
+pub applied-v-requires : need.applied-v-requires
+applied-v-requires c κs =
+    let low : c .reduce-got .result .upto < 16 = omega (arith, c .reduce-got .ensures .bound, c .if-got-eq16 .left) in
+    record { shape = search needs; zeros = λ k l. c .reduce-got .ensures .monic .above k (omega arith) }
 
 pub returns-then-got-eq16 : need.returns-then-got-eq16
 returns-then-got-eq16 c =
