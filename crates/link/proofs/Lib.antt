@@ -5,3 +5,5 @@ pub mod Rows
 pub mod Tables
 pub mod Pieces
 pub mod Subframes
+pub mod WovenCounts
+pub mod RowMending

@@ -4,3 +4,4 @@ pub mod Refusal
 pub mod Pieces
 pub mod SenderSteps
 pub mod Sender
+pub mod RowMending
