@@ -7,3 +7,4 @@ pub mod Pieces
 pub mod Subframes
 pub mod WovenCounts
 pub mod RowMending
+pub mod Feeding

@@ -5,3 +5,5 @@ pub mod Pieces
 pub mod SenderSteps
 pub mod Sender
 pub mod RowMending
+pub mod Rules
+pub mod Feeding
