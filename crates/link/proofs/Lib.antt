@@ -8,3 +8,4 @@ pub mod Subframes
 pub mod WovenCounts
 pub mod RowMending
 pub mod Feeding
+pub mod ReceiverTables

@@ -7,3 +7,7 @@ pub mod Sender
 pub mod RowMending
 pub mod Rules
 pub mod Feeding
+pub mod ReceiverFits
+pub mod ReceiverRefusal
+pub mod ReceiverSteps
+pub mod Receiver
