@@ -11,3 +11,4 @@ pub mod ReceiverFits
 pub mod ReceiverRefusal
 pub mod ReceiverSteps
 pub mod Receiver
+pub mod Hearing

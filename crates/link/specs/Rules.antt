@@ -1,10 +1,10 @@
 -- The receiver's rules, octet by octet.
 use mathlib.Core.Bool.{Bool, true, false, cond, _&&_, _||_, not}
-use mathlib.Core.List.{List, [], _∷_, _++_}
+use mathlib.Core.List.{List, [], _∷_}
 use Prim.Native.Nat.{ℕ, _+_, _*_}
 use lib.Bits.{bitXor}
 use lib.Dec.{eqb, ltb}
-use lib.ListN.{drop, set}
+use lib.ListN.{getD, drop, set}
 use Rattle.std.specs.declared.option.Option.{Option}
 use Rattle.std.specs.declared.option.Option.the-variants.{Some, None}
 use Rattle.settings.specs.declared.Settings.{Settings}
@@ -36,7 +36,9 @@ withOctet w x = record { octets = set (w .octets) (w .held) x; held = w .held + 
 
 -- the six octets held, and octet x
 abbrev pub seven : Window → ℕ → List ℕ
-seven w x = w .octets ++ (x ∷ [])
+seven w x =
+    let at : ℕ → ℕ = λ i. getD (w .octets) i 0 in
+    at 0 ∷ at 1 ∷ at 2 ∷ at 3 ∷ at 4 ∷ at 5 ∷ x ∷ []
 
 -- the latest six of these seven
 abbrev pub latestSix : Window → ℕ → Window

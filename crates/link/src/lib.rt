@@ -4,6 +4,7 @@ mod drawing;
 mod encoding;
 mod fault;
 mod fitting;
+mod hearing;
 mod mending;
 mod receiver;
 mod receiving;
