@@ -7,5 +7,6 @@ pub mod Pieces
 pub mod Subframes
 pub mod WovenCounts
 pub mod RowMending
-pub mod Feeding
+pub mod FedOctets
 pub mod ReceiverTables
+pub mod ModeFits

@@ -27,3 +27,8 @@ pub record Heard (s : Settings) (m : MappingMeaning) (mode : Mode) (memory : Lis
   pub mode-is : mode' ≡ modeAfter s mode octet
   pub report-is : report ≡ reportOf s mode octet
   pub stored : memory' ≡ memoryAfter s m mode memory octet
+
+-- a data octet of a subframe
+pub record DataRead (s : Settings) (m : MappingMeaning) (lock : Lock) (place : ℕ) (memory : List ℕ) (octet : ℕ) (mode : Mode) (memory' : List ℕ) : Type 0 where
+  pub mode-is : mode ≡ modeAfter s (Reading lock place) octet
+  pub stored : memory' ≡ memoryAfter s m (Reading lock place) memory octet

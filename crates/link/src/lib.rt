@@ -3,6 +3,7 @@ mod chunking;
 mod drawing;
 mod encoding;
 mod fault;
+mod feeding;
 mod fitting;
 mod hearing;
 mod mending;
