@@ -1,5 +1,5 @@
 -- Feeding octet after octet: the loop of feed turn by turn, and that any chunking leads to the same end.
-use mathlib.Core.Path.{_≡_, refl, sym, ap, _∙_}
+use mathlib.Core.Path.{_≡_, refl, sym, ap, ap₂, _∙_}
 use mathlib.Core.Bool.{Bool, true, false}
 use mathlib.Core.List.{List, [], _∷_, _++_}
 use Prim.Native.Nat.{ℕ, zero, suc, _+_, _<_, _≤_}
@@ -7,6 +7,7 @@ use native.Mathlib.Numerals.{add-one}
 use native.Mathlib.Omega.{arith}
 use lib.ListN.{length, getD, take, drop}
 use Rattle.std.proofs.shelf.Lists.{drop-more, drop-all}
+use Rattle.std.specs.Options.{isSome}
 use Rattle.std.specs.declared.option.Option.{Option}
 use Rattle.std.specs.declared.option.Option.the-variants.{Some, None}
 use Rattle.settings.specs.declared.Settings.{Settings}
@@ -14,7 +15,27 @@ use Rattle.mapping.specs.Meaning.{MappingMeaning}
 use Rattle.link.specs.declared.receiving.Mode.{Mode}
 use Rattle.link.specs.declared.report.Report.{Report}
 use Rattle.link.specs.Rules.{modeAfter, reportOf, memoryAfter, blockEnds, isFresh}
+use Rattle.link.specs.Hearing.{Heard}
 use Rattle.link.specs.Feeding.{Fed, fedAll, stopOr, fedFrom, fed, Passed, behind, passed, fedEach, takenEach, AnyChunking}
+
+-- ---- where a feed stops
+
+pub stop-at-report : (report : Option Report) (ended first : Bool) (n : ℕ) (mode : Mode) (memory : List ℕ) (further : Fed) → isSome report ≡ true
+    → stopOr report ended first n mode memory further ≡ record { taken = n; report = report; ended = false; first = false; mode = mode; memory = memory }
+stop-at-report (Some report) ended first n mode memory further e = refl
+stop-at-report None ended first n mode memory further e = let z : _≡_ {A = ℕ} 0 1 = cc in absurd (omega arith)
+
+pub stop-at-end : (report : Option Report) (ended first : Bool) (n : ℕ) (mode : Mode) (memory : List ℕ) (further : Fed) → isSome report ≡ false → ended ≡ true
+    → stopOr report ended first n mode memory further ≡ record { taken = n; report = None; ended = true; first = first; mode = mode; memory = memory }
+stop-at-end (Some report) ended first n mode memory further e t = let z : _≡_ {A = ℕ} 0 1 = cc in absurd (omega arith)
+stop-at-end None true first n mode memory further e t = refl
+stop-at-end None false first n mode memory further e t = let z : _≡_ {A = ℕ} 0 1 = cc in absurd (omega arith)
+
+pub no-stop : (report : Option Report) (ended first : Bool) (n : ℕ) (mode : Mode) (memory : List ℕ) (further : Fed) → isSome report ≡ false → ended ≡ false
+    → stopOr report ended first n mode memory further ≡ further
+no-stop (Some report) ended first n mode memory further e t = let z : _≡_ {A = ℕ} 0 1 = cc in absurd (omega arith)
+no-stop None true first n mode memory further e t = let z : _≡_ {A = ℕ} 0 1 = cc in absurd (omega arith)
+no-stop None false first n mode memory further e t = refl
 
 module _ (s : Settings) (m : MappingMeaning) where
   -- ---- the loop of feed
@@ -31,6 +52,18 @@ module _ (s : Settings) (m : MappingMeaning) where
       (fedFrom s m (n + 1) (modeAfter s mode x) (memoryAfter s m mode memory x) (drop (i + 1) xs))
   unfolding fedFrom
   fed-at n mode memory xs i x h e = rw (drop-more xs i 0 h, ← e) refl
+
+  -- one octet heard
+  pub fed-turn : (n : ℕ) (mode : Mode) (memory xs : List ℕ) (i x : ℕ) (mode' : Mode) (report : Option Report) (memory' : List ℕ)
+      → i < length xs → x ≡ getD xs i 0 → Heard s m mode memory x mode' report memory'
+      → fedFrom s m n mode memory (drop i xs)
+      ≡ stopOr report (blockEnds s mode) (isFresh mode) (n + 1) mode' memory' (fedFrom s m (n + 1) mode' memory' (drop (i + 1) xs))
+  fed-turn n mode memory xs i x mode' report memory' h e heard =
+      fed-at n mode memory xs i x h e
+      ∙ ap (λ r. stopOr r (blockEnds s mode) (isFresh mode) (n + 1) (modeAfter s mode x) (memoryAfter s m mode memory x)
+      (fedFrom s m (n + 1) (modeAfter s mode x) (memoryAfter s m mode memory x) (drop (i + 1) xs))) (sym (heard .report-is))
+      ∙ ap₂ (λ md mem. stopOr report (blockEnds s mode) (isFresh mode) (n + 1) md mem (fedFrom s m (n + 1) md mem (drop (i + 1) xs)))
+      (sym (heard .mode-is)) (sym (heard .stored))
 
   -- ---- any chunking
 

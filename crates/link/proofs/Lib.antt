@@ -10,3 +10,4 @@ pub mod RowMending
 pub mod FedOctets
 pub mod ReceiverTables
 pub mod ModeFits
+pub mod FeedLoop

@@ -12,3 +12,4 @@ pub mod ReceiverRefusal
 pub mod ReceiverSteps
 pub mod Receiver
 pub mod Hearing
+pub mod FedOctets

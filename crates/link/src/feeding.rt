@@ -11,6 +11,7 @@ ghost use Rattle.link.specs.Refusal.{mappingFits};
 ghost use Rattle.link.specs.ReceiverFits.{modeFits};
 ghost use Rattle.link.specs.Rules.{blockEnds, isFresh};
 ghost use Rattle.link.specs.Hearing.{DataRead, Heard};
+ghost use Rattle.link.specs.FedOctets.{FedBy};
 use crate::Lock;
 use crate::Mode;
 use crate::Report;
@@ -108,5 +109,63 @@ fn is_fresh(mode: Mode) -> bool
         Mode::Hunting(_) => false,
         Mode::Reading(lock, _) => lock.fresh,
         Mode::Checking(lock, _) => lock.fresh,
+    }
+}
+
+// What a feed comes to: the octets taken, the report of a marker read, whether a block ended and was the first since the
+// lock, and the mode after.
+#[derive(Clone, Copy)]
+pub struct Feeding {
+    pub taken: usize,
+    pub report: Option<Report>,
+    pub ended: bool,
+    pub first: bool,
+    pub mode: Mode,
+}
+
+// Goes through the octets one after the other. It stops behind the last one, behind a marker read, or behind the last octet
+// of a block in progress.
+pub(crate) fn feed_octets<M: Mapping>(
+    settings: &Settings,
+    mapping: &M,
+    start: Mode,
+    memory: &mut [u8],
+    input: &[u8],
+) -> Feeding
+    requires { ⌜ mappingFits (now settings) (M·Mapping .meaning (now mapping)) ≡ true ⌝ ∗ ⌜ length (now memory) ≡ blockLength (now settings) ⌝ ∗ ⌜ modeFits (now settings) start ≡ true ⌝ }
+    ensures { λ r. ⌜ FedBy (now (settings .entry)) (M·Mapping .meaning (now (mapping .entry))) start (now (memory .entry)) (now (input .entry)) r (now (memory .exit)) ⌝ }
+{
+    let mut mode = start;
+    let mut taken = 0;
+    for octet in input {
+        taken += 1;
+        let before = mode;
+        let (after, report) = hear(settings, mapping, before, memory, *octet);
+        mode = after;
+        if report.is_some() {
+            return Feeding {
+                taken,
+                report,
+                ended: false,
+                first: false,
+                mode,
+            };
+        }
+        if block_ends(settings, before) {
+            return Feeding {
+                taken,
+                report: None,
+                ended: true,
+                first: is_fresh(before),
+                mode,
+            };
+        }
+    }
+    Feeding {
+        taken,
+        report: None,
+        ended: false,
+        first: false,
+        mode,
     }
 }

@@ -18,6 +18,7 @@ pub use chunking::any_chunking_stands;
 pub use fault::DrawFault;
 pub use fault::MakingFault;
 pub use fault::PutFault;
+pub use feeding::Feeding;
 pub use mending::RowAnswer;
 pub use mending::RowFault;
 pub use receiver::Receiver;
