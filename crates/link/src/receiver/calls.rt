@@ -1,18 +1,24 @@
 // What a receiver does.
 ghost use mathlib.Core.Path.{_≡_};
+ghost use mathlib.Core.List.{[]};
 ghost use Rattle.std.specs.Results.{mapped};
-ghost use Rattle.link.specs.Receiver.{MakesReceiver, Nexts, Shows};
-ghost use Rattle.link.specs.ReceiverSteps.{atRow, gapAt};
+ghost use Rattle.link.specs.Receiver.{MakesReceiver, Feeds, Nexts, Shows};
+ghost use Rattle.link.specs.ReceiverSteps.{atRow, gapAt, stateFed};
+ghost use Rattle.link.specs.FedOctets.{asFed};
 use crate::BlockFault;
+use crate::FeedFault;
+use crate::Feeding;
 use crate::MakingFault;
 use crate::Mode;
 use crate::NextAnswer;
 use crate::NextFault;
 use crate::Receiver;
 use crate::ReceiverState;
+use crate::Report;
 use crate::RowFault;
 use crate::ShowFault;
 use crate::Window;
+use crate::feeding::feed_octets;
 use crate::fitting::mapping_fits;
 use crate::mending::mend_row;
 use code::Code;
@@ -66,7 +72,53 @@ fn gap_at(state: &ReceiverState) -> usize
     }
 }
 
+// Behind a feed: where a block ended, all its frames wait.
+fn state_fed(state: ReceiverState, fed: Feeding) -> ReceiverState
+    ensures { λ r. ⌜ r ≡ stateFed state (asFed fed []) ⌝ }
+{
+    let (answered, first) = if fed.ended {
+        (0, fed.first)
+    } else {
+        (state.answered, state.first)
+    };
+    ReceiverState {
+        mode: fed.mode,
+        answered,
+        first,
+        after_next: false,
+    }
+}
+
 impl<C: Code, M: Mapping> Receiver<C, M> {
+    // Goes through the octets one after the other; it stops behind the last one, behind a marker read, or behind a block's
+    // last octet, and answers how many it took and the report of the marker, if one was read.
+    // Refused, in this order: 11 the memory has not as many octets as a block; 15 frames wait.
+    pub(crate) fn feed(
+        &mut self,
+        memory: &mut [u8],
+        input: &[u8],
+    ) -> Result<(usize, Option<Report>), FeedFault>
+        ensures { λ r. ⌜ Feeds (C·Code .meaning) (M·Mapping .meaning) (now (self .entry)) (now (memory .entry)) (now (input .entry)) r (now (self .exit)) (now (memory .exit)) ⌝ }
+    {
+        if memory.len() != self.settings.block_length()
+            || !mapping_fits(&self.settings, &self.mapping)
+        {
+            return Err(FeedFault::Memory);
+        }
+        if self.state.answered < self.settings.rows() {
+            return Err(FeedFault::Waiting);
+        }
+        let fed = feed_octets(
+            &self.settings,
+            &self.mapping,
+            self.state.mode,
+            memory,
+            input,
+        );
+        self.state = state_fed(self.state, fed);
+        Ok((fed.taken, fed.report))
+    }
+
     // Mends the next row of the memory that waits, word by word; no octet outside the row is written. A row that is not
     // valid is answered like any other.
     // Refused, in this order: 11 the memory has not as many octets as a block; 16 no frame waits.
