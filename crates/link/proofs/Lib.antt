@@ -8,3 +8,9 @@ pub mod Subframes
 pub mod LineSent
 pub mod Refused
 pub mod OneRow
+pub mod WovenCounts
+pub mod RowMending
+pub mod FedOctets
+pub mod ReceiverTables
+pub mod ModeFits
+pub mod FeedLoop

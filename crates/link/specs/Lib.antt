@@ -6,3 +6,12 @@ pub mod SenderSteps
 pub mod Sender
 pub mod SenderHistory
 pub mod SenderLaws
+pub mod RowMending
+pub mod Rules
+pub mod Feeding
+pub mod ReceiverFits
+pub mod ReceiverRefusal
+pub mod ReceiverSteps
+pub mod Receiver
+pub mod Hearing
+pub mod FedOctets

@@ -1,16 +1,41 @@
 // The link: the line, and the two ends of it. Frames go in at the sender and line octets come out.
+mod chunking;
 mod drawing;
 mod encoding;
 mod fault;
+mod feeding;
+mod fitting;
+mod hearing;
+mod mending;
+mod receiver;
+mod receiving;
+mod reception;
+mod report;
 mod sender;
 mod state;
 #[cfg(test)]
 mod tests;
 mod theorems;
 
+pub use chunking::any_chunking_stands;
 pub use fault::DrawFault;
 pub use fault::MakingFault;
 pub use fault::PutFault;
+pub use feeding::Feeding;
+pub use mending::RowAnswer;
+pub use mending::RowFault;
+pub use receiver::Receiver;
+pub use receiving::Lock;
+pub use receiving::Mode;
+pub use receiving::ReceiverState;
+pub use receiving::Window;
+pub use reception::BlockFault;
+pub use reception::FeedFault;
+pub use reception::NextAnswer;
+pub use reception::NextFault;
+pub use reception::ShowFault;
+pub use report::Kind;
+pub use report::Report;
 pub use sender::Sender;
 pub use state::SenderState;
 pub use theorems::one_row_stands;
