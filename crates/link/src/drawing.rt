@@ -20,7 +20,7 @@ pub(crate) fn line_length(settings: &Settings) -> usize
 }
 
 // The marker of a subframe; a block has at most 4,096 of them.
-fn subframe_marker(count: usize) -> [u8; 7]
+pub(crate) fn subframe_marker(count: usize) -> [u8; 7]
     requires { ⌜ count < 4096 ⌝ }
     ensures { λ r. ⌜ r ≡ marker count ⌝ }
 {

@@ -13,11 +13,11 @@ use crate::Lock;
 use crate::Mode;
 use crate::Report;
 use crate::Window;
+use crate::drawing::subframe_marker;
 use marker::Cause;
 use marker::digits_apart;
 use marker::first_cause;
 use marker::read_marker;
-use marker::write_marker;
 use settings::Settings;
 
 // One octet more is held.
@@ -85,17 +85,6 @@ fn stay_locked(lock: Lock, misses: usize) -> Lock
     }
 }
 
-// The marker expected: a block has at most 4,096 subframes.
-fn expected_marker(count: usize) -> [u8; 7]
-    requires { ⌜ count < 4096 ⌝ }
-    ensures { λ r. ⌜ r ≡ marker count ⌝ }
-{
-    match write_marker(count) {
-        Some(octets) => octets,
-        None => unreachable(),
-    }
-}
-
 // Whether one miss more is the M-th in a row.
 fn last_miss(settings: &Settings, lock: Lock) -> bool
     requires { ⌜ lockFits (now settings) lock ≡ true ⌝ }
@@ -129,7 +118,7 @@ fn judged_report(settings: &Settings, lock: Lock, octets: &[u8; 7], cause: Optio
     requires { ⌜ lockFits (now settings) lock ≡ true ⌝ }
     ensures { λ r. ⌜ r ≡ judgedReport (now (settings .entry)) lock (now (octets .entry)) cause ⌝ }
 {
-    let digits = digits_apart(octets, &expected_marker(lock.count));
+    let digits = digits_apart(octets, &subframe_marker(lock.count));
     let (kind, fell) = match cause {
         None => (Kind::Hit, false),
         Some(why) => (Kind::Miss(why), last_miss(settings, lock)),

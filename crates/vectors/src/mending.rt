@@ -81,7 +81,7 @@ fn mend_row(row: &mut [u8], depth: usize, before: Tally) -> Tally {
 }
 
 // Rows filled by the generator, encoded but for each eighth one, altered word by word, and mended.
-pub fn mend_rows(row: &mut [u8], depth: usize) -> Tally {
+pub(crate) fn mend_rows(row: &mut [u8], depth: usize) -> Tally {
     let mut number = 0x352E_F853;
     let mut tally = Tally {
         answers: START,

@@ -1,6 +1,5 @@
 // What a sender does.
 ghost use mathlib.Core.Path.{_≡_};
-ghost use Rattle.link.specs.Refusal.{mappingFits};
 ghost use Rattle.link.specs.Sender.{Makes, Puts, Draws};
 use crate::DrawFault;
 use crate::MakingFault;
@@ -10,6 +9,7 @@ use crate::SenderState;
 use crate::drawing::line_length;
 use crate::drawing::write_line_from;
 use crate::encoding::encode_frame;
+use crate::fitting::mapping_fits;
 use code::Code;
 use mapping::Mapping;
 use settings::Settings;
@@ -86,11 +86,4 @@ impl<C: Code, M: Mapping> Sender<C, M> {
         };
         Ok(written)
     }
-}
-
-// Whether the mapping is made for the depth and the rows of the settings.
-fn mapping_fits<M: Mapping>(settings: &Settings, mapping: &M) -> bool
-    ensures { λ r. ⌜ r ≡ mappingFits (now (settings .entry)) (M·Mapping .meaning (now (mapping .entry))) ⌝ }
-{
-    mapping.depth() == settings.depth() && mapping.rows() == settings.rows()
 }
