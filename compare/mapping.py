@@ -1,5 +1,5 @@
 #!/usr/bin/env python3
-"""The mappings and the randomizer once more, written from docs/FORMAT.md alone.
+"""The mappings and the randomizer once more, by the rules of docs/FORMAT.md, sharing no code with the crates.
 
     compare/mapping.py lines             prints what the program walk prints: digests of whole blocks' lines
     compare/mapping.py fades QUOTE       tries every run of places of many small blocks, and compares with the fades that QUOTE prints

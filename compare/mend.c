@@ -1,4 +1,4 @@
-/* A bounded-distance decoder for rs16, written from docs/FORMAT.md (Berlekamp-Massey, search for roots, Forney, and a check), and
+/* A bounded-distance decoder for rs16, by the rules of docs/FORMAT.md (Berlekamp-Massey, search for roots, Forney, and a check), and
    the comparison of our mend with it: answer, octets and refusals, on words with 0 to 20 altered octets at every depth and on words
    chosen badly. Where no codeword is within 16 places no decoder may answer one, so both must refuse.
 

@@ -1,4 +1,4 @@
-/* The code rs16 once more, written from docs/FORMAT.md: the syndromes by evaluating the word's polynomial, digit by digit
+/* The code rs16 once more, by the rules of docs/FORMAT.md: the syndromes by evaluating the word's polynomial, digit by digit
    arithmetic and no tables but the dual basis; the check octets by libfec's CCSDS encoder. It prints the digests that the program
    `vectors` prints, over rows made by the same generator. */
 #include <fec.h>

@@ -1,5 +1,5 @@
 #!/usr/bin/env python3
-"""The quote sheet once more, written from docs/SHEET.md and docs/FORMAT.md alone, and compared with the program quote.
+"""The quote sheet once more, by the rules of docs/SHEET.md and docs/FORMAT.md, sharing no code with the crates, and compared with the program quote.
 
     compare/sheet.py answer < SHEET          prints the answers of this program
     compare/sheet.py compare QUOTE [SEED]    runs QUOTE on sheets made from a seed and compares; exit 1 at a difference
@@ -83,7 +83,7 @@ def refusal(depth, symbol, rows, sub, misses):
 
 
 def longest_fade(reach, depth, symbol, rows):
-    """By the meaning: the most line places in a row, from any place on, with at most `reach` octets of any word."""
+    """The formula of docs/FORMAT.md; compare/mapping.py finds the same figure by trying every run of places."""
     whole, rest = divmod(reach * depth, symbol)
     return whole * rows * symbol + rest
 
