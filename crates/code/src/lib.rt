@@ -1,5 +1,7 @@
 // Codes: what each keeps, whatever it is, and the code bare.
 // A code treats words of 255 octets, `depth` of them woven into a row: octet j of word w is row octet j * depth + w.
+#![tactic(auto)]
+
 ghost use Rattle.std.specs.Prelude.{◌≡◌};
 ghost use Rattle.code.specs.Meaning.{CodeMeaning, CodeLaws};
 ghost use Rattle.code.specs.Calls.{Encodes, Mends};

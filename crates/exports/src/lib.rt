@@ -1,4 +1,6 @@
 // The calls that a program in C or Rust can link, for comparisons and measurements: rs16 on a word of a row.
+#![tactic(auto)]
+
 ghost use Rattle.exports.specs.Numbers.{EncodesByNumber, MendsByNumber};
 
 use rs16::{encode_rs16, mend_rs16};

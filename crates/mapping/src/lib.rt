@@ -1,5 +1,7 @@
 // Mappings: from which place of a block's memory each data octet of the line comes, what is added to it,
 // and how long a fade a code of a given reach rides through.
+#![tactic(auto)]
+
 mod block;
 mod calls;
 mod fault;

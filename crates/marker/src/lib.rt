@@ -1,4 +1,6 @@
 // Markers: the seven octets before a subframe. Writing one, reading one, and telling how seven octets differ from the one expected.
+#![tactic(auto)]
+
 mod cause;
 mod compare;
 mod read;

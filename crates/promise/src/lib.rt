@@ -1,4 +1,6 @@
 // The link promise: what holds of the two ends of a link over whole histories of calls, and the quotes that carry it.
+#![tactic(auto)]
+
 mod figures;
 mod kinds;
 mod links;

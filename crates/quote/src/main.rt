@@ -1,4 +1,6 @@
 // Answers the quote sheet that stands on standard input.
+#![tactic(auto)]
+
 use sheet::answer_sheet;
 use std::io;
 use std::io::Read;

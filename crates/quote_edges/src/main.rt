@@ -1,4 +1,6 @@
 // The program quote on a sheet of edges: its stdin has the ends of every range, spoiled forms and odd octets.
+#![tactic(auto)]
+
 use sheet::answer_sheet;
 use std::io;
 use std::io::Read;

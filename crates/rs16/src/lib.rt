@@ -1,5 +1,6 @@
 // The code rs16: words of 223 information octets and 32 check octets, with up to 16 altered octets put right.
 // Its definitions stand in specs/: the field, the dual basis of the line octets, and the codewords.
+#![tactic(auto)]
 
 mod calls;
 mod coefficients;

@@ -1,4 +1,6 @@
 // The settings of a link. No value of this type lies outside the ranges that docs/FORMAT.md lists.
+#![tactic(auto)]
+
 ghost use Rattle.std.specs.Prelude.{◌≡◌, true};
 ghost use Rattle.settings.specs.Allowed.{depth_is_allowed, rows_are_allowed, symbol_is_allowed, subframe_rows_are_allowed, miss_limit_is_allowed};
 

@@ -1,4 +1,6 @@
 // The quote sheet: from the octets of a sheet to the text of its answers.
+#![tactic(auto)]
+
 mod answers;
 mod figures;
 mod form;

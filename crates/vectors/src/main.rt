@@ -1,5 +1,7 @@
 // Prints digests of what rs16 makes of rows that a small generator fills, to be compared with another program's:
 // at each depth those of 1,000 rows' syndromes, and of the rows encoded; and those of what mending altered words came to.
+#![tactic(auto)]
+
 ghost use Rattle.std.specs.Prelude.{◌≤◌};
 
 use mending::{Tally, mend_rows};

@@ -1,5 +1,7 @@
 // Holds the walk of the mappings against their sources one by one, over whole blocks of several settings;
 // with an argument it times both instead.
+#![tactic(auto)]
+
 use mapping::{BlockMapping, Mapping, MappingFault, Randomized, SteppedMapping};
 use settings::Settings;
 use std::{env, io};

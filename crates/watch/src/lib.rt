@@ -1,4 +1,6 @@
 // Watching a link: what the receiver answers is noted in worst lists, markers by their wrong digits and rows by their altered octets.
+#![tactic(auto)]
+
 ghost use Rattle.watch.specs.Watched.{MarkerNoted, RowNoted};
 
 use link::{NextAnswer, Report};

@@ -1,4 +1,6 @@
 // The worst list: the greatest of the records noted, each once, greatest first, over slots that the caller supplies.
+#![tactic(auto)]
+
 mod insertion;
 mod kinds;
 mod list;
