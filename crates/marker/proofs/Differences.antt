@@ -1,5 +1,5 @@
 -- In how many digits seven octets differ from a marker.
-use Rattle.std.proofs.Common.{◌≡◌, ℕ, zero, suc, ◌+◌, ◌<◌, ◌≤◌, List, get_or, sym, refl, ap, ◌∙◌, ⊎_elim, add-one, arith}
+use Rattle.std.proofs.Common.{◌≡◌, ℕ, zero, suc, ◌+◌, ◌<◌, ◌≤◌, List, get_or, refl, ap, ◌∙◌, ⊎_elim, add-one, arith}
 use lib.Bits.{bit_xor, xor_self}
 use lib.Count.{ones}
 use Rattle.std.proofs.lemmas.Bool.{cases_lt}
@@ -7,9 +7,9 @@ use Rattle.octets.specs.Counting.{sum}
 use Rattle.octets.specs.Octets.{Octets}
 use Rattle.octets.proofs.Counting.{sum_suc, sum_zero}
 use Rattle.octets.proofs.Octets.{octets_same}
-use Rattle.marker.specs.Marker.{count_limit, marker}
+use Rattle.marker.specs.Marker.{marker}
 use Rattle.marker.specs.Reading.{digits_apart}
-use Rattle.marker.specs.Theorems.{ToldApart, MarkerLaws}
+use Rattle.marker.specs.Theorems.{MarkerLaws}
 use Rattle.marker.proofs.Digits.{same_from_xor}
 use Rattle.marker.proofs.Markers.{marker_octets, reads_back, hit_from_cause, cause_of_hit}
 

@@ -1,14 +1,13 @@
 -- A marker is read back as it was written, and is told from all other octets.
-use Rattle.std.proofs.Common.{◌≡◌, ℕ, zero, suc, ◌+◌, ◌*◌, ◌/◌, ◌%◌, ◌<◌, ◌≤◌, Bool, true, false, cond, ◌&&◌, eqb, List, [], ◌∷◌, ◌++◌, length, get_or, Some, None, Option, sym, refl, ap, ◌∙◌, inl, inr, arith}
+use Rattle.std.proofs.Common.{◌≡◌, ℕ, zero, suc, ◌/◌, ◌%◌, ◌<◌, Bool, true, false, cond, ◌&&◌, eqb, List, length, get_or, Some, None, refl, ap, ◌∙◌, arith}
 use lib.Count.{ones, ones_in, ones_step}
 use Rattle.std.proofs.lemmas.Nat.{div-add-mod', mod_below}
-use Rattle.std.proofs.lemmas.Bool.{eq-eqb, eqb-true, and_parts, cases_Bool, cond-true, cond-false}
+use Rattle.std.proofs.lemmas.Bool.{eq-eqb, eqb-true, and_parts}
 use Rattle.octets.specs.Octets.{Octets}
 use Rattle.octets.proofs.Octets.{octets_same}
-use Rattle.marker.specs.Marker.{sync_word, count_limit, count_field, marker}
-use Rattle.marker.specs.Reading.{field_read, count_read, sync_is_right, parity_is_right, reading, first_cause}
+use Rattle.marker.specs.Marker.{count_limit, count_field, marker}
+use Rattle.marker.specs.Reading.{field_read, count_read, sync_is_right, parity_is_right, first_cause}
 use Rattle.marker.specs.Theorems.{Figures, ReadBack}
-use Rattle.marker.specs.declared.cause.Cause.{Cause}
 use Rattle.marker.specs.declared.cause.Cause.TheVariants.{SyncWord, Parity, Count}
 
 parity_digit : (c : ℕ) → ones c % 2 < 2

@@ -1,5 +1,5 @@
 -- What the ranges of the settings give: bounds on each number, exact division, and bounds on the lengths.
-use Rattle.std.proofs.Common.{◌≡◌, ℕ, zero, suc, ◌+◌, ◌*◌, ◌/◌, ◌%◌, ◌<◌, ◌≤◌, true, refl, div-add-mod', arith, w64, Fits}
+use Rattle.std.proofs.Common.{◌≡◌, ℕ, zero, suc, ◌*◌, ◌/◌, ◌%◌, ◌<◌, ◌≤◌, true, div-add-mod', arith, w64, Fits}
 use Rattle.std.proofs.lemmas.Nat.{mul-le}
 use Rattle.std.proofs.lemmas.Bool.Decides.{nat_tests}
 use Rattle.settings.specs.Allowed.{depth_is_allowed, rows_are_allowed, symbol_is_allowed, subframe_rows_are_allowed, miss_limit_is_allowed}

@@ -1,5 +1,5 @@
 -- When a settings record is refused, and by which number.
-use Rattle.std.specs.Prelude.{◌≡◌, ℕ, cond, Some, None, Option}
+use Rattle.std.specs.Prelude.{ℕ, cond, Some, None, Option}
 use Rattle.settings.specs.Allowed.{depth_is_allowed, rows_are_allowed, symbol_is_allowed, subframe_rows_are_allowed, miss_limit_is_allowed}
 use Rattle.settings.specs.declared.fault.SettingsFault.{SettingsFault}
 use Rattle.settings.specs.declared.fault.SettingsFault.TheVariants.{Depth, Rows, Symbol, SubframeRows, MissLimit}

@@ -4,11 +4,11 @@ use Rattle.marker.proofs.Digits.{ones_xor}
 use Rattle.marker.proofs.Differences.{sum_more}
 use Rattle.marker.proofs.compare.digits_apart.Goals as goal
 
-pub overflow-cast-digits : goal.overflow-cast-digits
-overflow-cast-digits c = search (rules, ones_xor)
+pub overflow_cast-digits : goal.overflow_cast-digits
+overflow_cast-digits c = search (rules, ones_xor)
 
-pub overflow-add-digits : goal.overflow-add-digits
-overflow-add-digits c = search (rules, ones_xor)
+pub overflow_add-digits : goal.overflow_add-digits
+overflow_add-digits c = search (rules, ones_xor)
 
 pub loop-i-init : goal.loop-i-init
 loop-i-init c = search (rules, sum_zero)

@@ -2,6 +2,6 @@ use Rattle.std.proofs.Common.{arith}
 use Rattle.settings.proofs.Ranges.{ranges, row_length_high, product_fits}
 use Rattle.settings.proofs.Settings.subframe_data.Goals as goal
 
-pub overflow-mul-result : goal.overflow-mul-result
-overflow-mul-result c =
+pub overflow_mul-result : goal.overflow_mul-result
+overflow_mul-result c =
     let r = ranges c.args.self.now in product_fits _ _ (omega (arith, row_length_high c.args.self.now)) (omega arith)

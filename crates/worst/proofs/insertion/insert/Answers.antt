@@ -3,17 +3,17 @@ use Rattle.worst.proofs.Placing.{stands_none, stands_room, stands_full, stands_p
 use Rattle.worst.proofs.insertion.insert.Goals as goal
 use Rattle.worst.proofs.insertion.insert.Goals.{then-n-slots, else-n-slots}
 
-pub returns-in-default : goal.returns-in-default
-returns-in-default g c = λ o. stands_none o.cmp c.args.slots.now c.args.«record» c.args.n c.requires c.args.n refl (c.in-default.ensures.told o)
+pub returns-in_default : goal.returns-in_default
+returns-in_default g c = λ o. stands_none o.cmp c.args.slots.now c.args.«record» c.args.n c.requires c.args.n refl (c.in_default.ensures.told o)
 
 pub returns-then-i-m : goal.returns-then-i-m
 returns-then-i-m g c = λ o.
     let w = simp length-take at c.in-Some.ensures.within in
     elim c.if-n-slots.branch [
       | then-n-slots v ↦ stands_room o.cmp c.args.slots.now c.args.«record» c.args.n c.requires c.in-Some.i c.args.n c.if-n-slots.m
-          _ _ refl (c.in-Some.ensures.told o) (omega arith) (omega arith) (omega arith) c.put-in.ensures refl
+          _ _ refl (c.in-Some.ensures.told o) (omega arith) (omega arith) (omega arith) c.put_in.ensures refl
       | else-n-slots v ↦ stands_full o.cmp c.args.slots.now c.args.«record» c.args.n c.requires c.in-Some.i c.args.n c.if-n-slots.m
-          _ _ refl (c.in-Some.ensures.told o) (omega arith) (omega arith) (omega arith) c.put-in.ensures refl
+          _ _ refl (c.in-Some.ensures.told o) (omega arith) (omega arith) (omega arith) c.put_in.ensures refl
     ]
 
 pub returns-else-i-m : goal.returns-else-i-m
