@@ -9,7 +9,7 @@ loop-i-init c = run_none c.args.at c.args.turn c.args.octets.now
 pub loop-i-preserved : goal.loop-i-preserved
 loop-i-preserved c =
     run_more c.args.at c.loop-i.i c.args.turn c.args.octets.now c.loop-i.octets _ c.loop-i.invariant (omega arith) (omega arith)
-    (ap₂ (λ a b. bit_xor a b) (c.loop-i.invariant.kept c.loop-i.i (inr (omega arith))) c.octet-of-round.ensures)
+    (ap₂ (λ a b. bit_xor a b) (c.loop-i.invariant.kept c.loop-i.i (inr (omega arith))) c.octet_of_round.ensures)
 
 pub returns : goal.returns
 returns c =

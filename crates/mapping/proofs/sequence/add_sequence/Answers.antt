@@ -8,8 +8,8 @@ loop-at-init c = (filled_none _ c.args.octets.now, ap (λ x. x % 255) (sym (add-
 
 pub loop-at-preserved : goal.loop-at-preserved
 loop-at-preserved c = (
-  added_join c.args.start c.loop-at.at (c.loop-at.at + c.min-run.result) c.loop-at.turn c.args.octets.now c.loop-at.octets c.add-run.new.octets
-      c.loop-at.invariant.1 (omega arith) c.loop-at.invariant.0 c.add-run.ensures,
+  added_join c.args.start c.loop-at.at (c.loop-at.at + c.min-run.result) c.loop-at.turn c.args.octets.now c.loop-at.octets c.add_run.new.octets
+      c.loop-at.invariant.1 (omega arith) c.loop-at.invariant.0 c.add_run.ensures,
   omega (arith, c.loop-at.invariant.1),
   omega (arith, c.min-run.ensures, c.loop-at.invariant.2),
 )

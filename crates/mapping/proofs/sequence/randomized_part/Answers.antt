@@ -13,17 +13,17 @@ loop-i-preserved c = (
   length-set _ _ _ ∙ c.loop-i.invariant.1,
 )
 
-pub slice-bounds-add-sequence-end : goal.slice-bounds-add-sequence-end
-slice-bounds-add-sequence-end c = sym c.loop-i.invariant.1
+pub slice_bounds-add_sequence-end : goal.slice_bounds-add_sequence-end
+slice_bounds-add_sequence-end c = sym c.loop-i.invariant.1
 
-pub add-sequence-requires : goal.add-sequence-requires
-add-sequence-requires c = omega (arith, c.loop-i.invariant.1)
+pub add_sequence-requires : goal.add_sequence-requires
+add_sequence-requires c = omega (arith, c.loop-i.invariant.1)
 
 pub returns : goal.returns
 returns c =
     record {
       size = c.min-size.ensures;
-      room_is = c.add-sequence.ensures.size ∙ c.loop-i.invariant.1;
-      octet = λ i l. c.add-sequence.ensures.added i l
+      room_is = c.add_sequence.ensures.size ∙ c.loop-i.invariant.1;
+      octet = λ i l. c.add_sequence.ensures.added i l
           ∙ ap (λ x. bit_xor x (sequence (c.args.start + i))) (c.loop-i.invariant.0.written i (omega arith));
     }

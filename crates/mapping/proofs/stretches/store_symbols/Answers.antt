@@ -17,7 +17,7 @@ loop-i-init c =
 pub bounds-memory-place : goal.bounds-memory-place
 bounds-memory-place c =
     let s = c.args.settings.now in
-    let begun = not_refused (stepped_of s 0) _ c.args.start c.in-ok-taken.ensures.0 in
+    let begun = not_refused (stepped_of s 0) _ c.args.start c.in_ok-taken.ensures.0 in
     let from = place_is s c.args.step (c.args.start + c.loop-i.i) c.loop-i.walk c.loop-i.invariant.1 in
     omega (arith, begun.1, c.loop-i.invariant.0.size, from, c.place.ensures, source_lt s.depth s.rows s.symbol c.args.step (cut_of s) (c.args.start + c.loop-i.i))
 
@@ -25,7 +25,7 @@ pub loop-i-preserved : goal.loop-i-preserved
 loop-i-preserved c =
     let s = c.args.settings.now in
     let p = c.args.start + c.loop-i.i in
-    let answer = c.in-ok-taken.ensures in
+    let answer = c.in_ok-taken.ensures in
     let begun = not_refused (stepped_of s 0) _ c.args.start answer.0 in
     let from = c.place.ensures ∙ place_is s c.args.step p c.loop-i.walk c.loop-i.invariant.1 in
     let On : ℕ → Type 0 = λ p. At s c.args.step p c.advance.new.self in (
@@ -37,7 +37,7 @@ loop-i-preserved c =
 pub returns : goal.returns
 returns c =
     let s = c.args.settings.now in
-    let answer = c.in-ok-taken.ensures in
+    let answer = c.in_ok-taken.ensures in
     let begun = not_refused (stepped_of s 0) _ c.args.start answer.0 in
     stored_all (stepped_of s c.args.step) c.args.line.now c.args.memory.now c.loop-i.memory c.args.start _ c.loop-i.i
     begun.0 begun.1 answer.1 (omega arith) c.loop-i.invariant.0

@@ -17,7 +17,7 @@ loop-i-init c =
 pub bounds-memory-place : goal.bounds-memory-place
 bounds-memory-place c =
     let s = c.args.settings.now in
-    let begun = not_refused (stepped_of s 0) _ c.args.start c.in-ok-taken.ensures.0 in
+    let begun = not_refused (stepped_of s 0) _ c.args.start c.in_ok-taken.ensures.0 in
     let from = place_is s c.args.step (c.args.start + c.loop-i.i) c.loop-i.walk c.loop-i.invariant.1 in
     omega (arith, begun.1, from, c.place.ensures, source_lt s.depth s.rows s.symbol c.args.step (cut_of s) (c.args.start + c.loop-i.i))
 
@@ -28,14 +28,14 @@ loop-i-preserved c =
     let memory = c.args.memory.now in
     let from = c.place.ensures ∙ place_is s c.args.step p c.loop-i.walk c.loop-i.invariant.1 in
     let On : ℕ → Type 0 = λ p. At s c.args.step p c.advance.new.self in (
-      filled_more _ c.args.out.now c.loop-i.out c.loop-i.i _ c.loop-i.invariant.0 (omega (arith, c.in-ok-taken.ensures.1)) (ap (λ q. get_or memory q 0) from ∙ sym (xor_zero_r _)),
+      filled_more _ c.args.out.now c.loop-i.out c.loop-i.i _ c.loop-i.invariant.0 (omega (arith, c.in_ok-taken.ensures.1)) (ap (λ q. get_or memory q 0) from ∙ sym (xor_zero_r _)),
       subst On (add_assoc c.args.start c.loop-i.i 1) (c.advance.ensures s c.args.step p c.loop-i.invariant.1),
     )
 
 pub returns : goal.returns
 returns c =
     let s = c.args.settings.now in
-    let answer = c.in-ok-taken.ensures in
+    let answer = c.in_ok-taken.ensures in
     let begun = not_refused (stepped_of s 0) _ c.args.start answer.0 in
     written_all (stepped_of s c.args.step) c.args.memory.now c.args.out.now c.loop-i.out c.args.start _ c.loop-i.i
     begun.0 begun.1 answer.1 (omega arith) c.loop-i.invariant.0

@@ -3,4 +3,4 @@ use Rattle.code.proofs.bare.BareCode.encode.Goals as goal
 
 pub returns : goal.returns
 returns c =
-    encodes_as_is c.args.depth c.args.word c.args.row.now c.below-256.ensures c.check-shape.result c.check-shape.ensures
+    encodes_as_is c.args.depth c.args.word c.args.row.now c.below_256.ensures c.check_shape.result c.check_shape.ensures

@@ -7,8 +7,8 @@ use Rattle.mapping.specs.Bounds.{cut_of}
 use Rattle.mapping.specs.InterleaverLemmas.{round_lt}
 use Rattle.mapping.proofs.block.BlockMappingMapping.source.Goals as goal
 
-pub symbol-place-requires : goal.symbol-place-requires
-symbol-place-requires c =
+pub symbol_place-requires : goal.symbol_place-requires
+symbol_place-requires c =
     let s = c.args.self.now.settings in
     let h : c.args.p < 255 * s.depth * s.rows = omega arith in
     simp (c.symbol-symbol.ensures, c.rows.ensures, c.rows-2.ensures)
@@ -19,5 +19,5 @@ unfolding block_source
 returns c =
     let s = c.args.self.now.settings in
     let h : c.args.p < 255 * s.depth * s.rows = omega arith in
-    let e : c.symbol-place.result ≡ block_source s.depth s.rows s.symbol c.args.p = cc in
+    let e : c.symbol_place.result ≡ block_source s.depth s.rows s.symbol c.args.p = cc in
     ap Ok e ∙ cond_below c.args.p (255 * s.depth * s.rows) _ _ h

@@ -9,24 +9,24 @@ loop-i-init g c = stored_none _ _ c.args.start c.args.memory.now
 pub bounds-memory-q : goal.bounds-memory-q
 bounds-memory-q g c =
     let m = g.Self.Mapping.meaning c.args.self.now in
-    let full = full_of m c.args.memory.now c.depth.result c.rows.result c.depth.ensures c.rows.ensures c.if-not-fills-block.ensures in
-    let q = told m m.source (c.args.start + c.loop-i.i) c.in-ok-q.q c.source-in-loop-i.result c.in-ok-q.was c.source-in-loop-i.ensures in
+    let full = full_of m c.args.memory.now c.depth.result c.rows.result c.depth.ensures c.rows.ensures c.if-not-fills_block.ensures in
+    let q = told m m.source (c.args.start + c.loop-i.i) c.in_ok-q.q c.source-in-loop-i.result c.in_ok-q.was c.source-in-loop-i.ensures in
     omega (arith, full, c.loop-i.invariant.size, q.1, (g.met.Self.Mapping.lawful c.args.self.now).inside (c.args.start + c.loop-i.i) q.0)
 
 pub loop-i-preserved : goal.loop-i-preserved
 loop-i-preserved g c =
     let m = g.Self.Mapping.meaning c.args.self.now in
     let p = c.args.start + c.loop-i.i in
-    let full = full_of m c.args.memory.now c.depth.result c.rows.result c.depth.ensures c.rows.ensures c.if-not-fills-block.ensures in
-    let q = told m m.source p c.in-ok-q.q c.source-in-loop-i.result c.in-ok-q.was c.source-in-loop-i.ensures in
-    let mask = told m m.mask p c.in-ok-mask.mask c.mask.result c.in-ok-mask.was c.mask.ensures in
+    let full = full_of m c.args.memory.now c.depth.result c.rows.result c.depth.ensures c.rows.ensures c.if-not-fills_block.ensures in
+    let q = told m m.source p c.in_ok-q.q c.source-in-loop-i.result c.in_ok-q.was c.source-in-loop-i.ensures in
+    let mask = told m m.mask p c.in_ok-mask.mask c.mask.result c.in_ok-mask.was c.mask.ensures in
     stored_more m (g.met.Self.Mapping.lawful c.args.self.now) _ c.args.start c.args.memory.now c.loop-i.memory c.loop-i.i _ _
     c.loop-i.invariant full q.0 q.1 (ap (λ b. bit_xor (get_or c.args.line.now c.loop-i.i 0) b) mask.1)
 
 pub returns : goal.returns
 returns g c =
     let m = g.Self.Mapping.meaning c.args.self.now in
-    let full = full_of m c.args.memory.now c.depth.result c.rows.result c.depth.ensures c.rows.ensures c.if-not-fills-block.ensures in
-    let below = told m m.source c.args.start c.in-ok-source.field-0 c.source.result c.in-ok-source.was c.source.ensures in
+    let full = full_of m c.args.memory.now c.depth.result c.rows.result c.depth.ensures c.rows.ensures c.if-not-fills_block.ensures in
+    let below = told m m.source c.args.start c.in_ok-source.field-0 c.source.result c.in_ok-source.was c.source.ensures in
     stored_all m c.args.line.now c.args.memory.now c.loop-i.memory c.args.start c.min-taken.result c.loop-i.i
     below.0 full (c.min-taken.ensures ∙ ap (λ b. min (length c.args.line.now) (b - c.args.start)) full) (omega arith) c.loop-i.invariant

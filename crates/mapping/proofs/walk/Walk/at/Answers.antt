@@ -4,36 +4,36 @@ use Rattle.settings.proofs.Ranges.{ranges, row_length_high, block_length_high}
 use Rattle.mapping.proofs.Walking.{symbol_le_row, column_lt, base_lt}
 use Rattle.mapping.proofs.walk.Walk.at.Goals as goal
 
-pub overflow-mul-result : goal.overflow-mul-result
-overflow-mul-result c =
-    omega (arith, column_lt c.args.settings.now _ _ c.args.step c.symbol-symbol.ensures c.row-length-row-length.ensures, c.row-length-row-length.type-inv)
+pub overflow_mul-result : goal.overflow_mul-result
+overflow_mul-result c =
+    omega (arith, column_lt c.args.settings.now _ _ c.args.step c.symbol-symbol.ensures c.row_length-row_length.ensures, c.row_length-row_length.type-inv)
 
-pub overflow-mul-result-3 : goal.overflow-mul-result-3
-overflow-mul-result-3 c =
-    omega (arith, column_lt c.args.settings.now _ _ (c.args.p / c.symbol-symbol.result / c.rows-rows.result) c.symbol-symbol.ensures c.row-length-row-length.ensures, c.row-length-row-length.type-inv)
+pub overflow_mul-result-3 : goal.overflow_mul-result-3
+overflow_mul-result-3 c =
+    omega (arith, column_lt c.args.settings.now _ _ (c.args.p / c.symbol-symbol.result / c.rows-rows.result) c.symbol-symbol.ensures c.row_length-row_length.ensures, c.row_length-row_length.type-inv)
 
-pub overflow-mul-result-5 : goal.overflow-mul-result-5
-overflow-mul-result-5 c =
+pub overflow_mul-result-5 : goal.overflow_mul-result-5
+overflow_mul-result-5 c =
     let x = c.args.p / c.symbol-symbol.result in
-    omega (arith, column_lt c.args.settings.now _ _ (x / c.rows-rows.result + x % c.rows-rows.result * c.args.step) c.symbol-symbol.ensures c.row-length-row-length.ensures, c.row-length-row-length.type-inv)
+    omega (arith, column_lt c.args.settings.now _ _ (x / c.rows-rows.result + x % c.rows-rows.result * c.args.step) c.symbol-symbol.ensures c.row_length-row_length.ensures, c.row_length-row_length.type-inv)
 
-pub invariant-of-result : goal.invariant-of-result
-invariant-of-result c =
+pub invariant_of-result : goal.invariant_of-result
+invariant_of-result c =
     let s = c.args.settings.now in (
-      symbol_le_row s _ _ c.symbol-symbol.ensures c.row-length-row-length.ensures,
+      symbol_le_row s _ _ c.symbol-symbol.ensures c.row_length-row_length.ensures,
       (
-        omega (arith, row_length_high s, c.row-length-row-length.ensures),
+        omega (arith, row_length_high s, c.row_length-row_length.ensures),
         (
-          omega (arith, block_length_high s, c.block-length.ensures),
+          omega (arith, block_length_high s, c.block_length.ensures),
           (
-            column_lt s _ _ c.args.step c.symbol-symbol.ensures c.row-length-row-length.ensures,
+            column_lt s _ _ c.args.step c.symbol-symbol.ensures c.row_length-row_length.ensures,
             (
               mod_below _ _ (omega (arith, (ranges s).symbol_low, c.symbol-symbol.ensures)),
               (
-                base_lt s _ _ _ _ c.rows-rows.ensures c.row-length-row-length.ensures c.block-length.ensures,
+                base_lt s _ _ _ _ c.rows-rows.ensures c.row_length-row_length.ensures c.block_length.ensures,
                 (
-                  column_lt s _ _ _ c.symbol-symbol.ensures c.row-length-row-length.ensures,
-                  (column_lt s _ _ _ c.symbol-symbol.ensures c.row-length-row-length.ensures, tt),
+                  column_lt s _ _ _ c.symbol-symbol.ensures c.row_length-row_length.ensures,
+                  (column_lt s _ _ _ c.symbol-symbol.ensures c.row_length-row_length.ensures, tt),
                 ),
               ),
             ),

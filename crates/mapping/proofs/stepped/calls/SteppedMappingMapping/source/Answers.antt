@@ -7,16 +7,16 @@ use Rattle.mapping.specs.Bounds.{cut_of, step_high, stepped_column_fits}
 use Rattle.mapping.specs.InterleaverLemmas.{columns_pos}
 use Rattle.mapping.proofs.stepped.calls.SteppedMappingMapping.source.Goals as goal
 
-pub overflow-add-column : goal.overflow-add-column
-overflow-add-column c =
+pub overflow_add-column : goal.overflow_add-column
+overflow_add-column c =
     let m = c.args.self.now in
     simp (c.symbol-symbol.ensures, c.rows.ensures, c.rows-2.ensures)
     (omega (arith, stepped_column_fits m.settings m.step c.args.p (step_high m.step m.step_allowed) (omega arith)))
 
-pub symbol-place-requires : goal.symbol-place-requires
-symbol-place-requires c =
+pub symbol_place-requires : goal.symbol_place-requires
+symbol_place-requires c =
     let s = c.args.self.now.settings in
-    simp (c.symbol-symbol.ensures, c.rows.ensures, c.rows-2.ensures, c.row-length.ensures)
+    simp (c.symbol-symbol.ensures, c.rows.ensures, c.rows-2.ensures, c.row_length.ensures)
     (mod_below _ _ (ranges s).rows_low, (mod_below _ _ (columns_pos s.depth s.rows s.symbol 0 (cut_of s)), mod_below _ _ (ranges s).symbol_low))
 
 pub returns : goal.returns
@@ -25,5 +25,5 @@ returns c =
     let m = c.args.self.now in
     let s = m.settings in
     let h : c.args.p < 255 * s.depth * s.rows = omega arith in
-    let e : c.symbol-place.result ≡ stepped_source s.depth s.rows s.symbol m.step c.args.p = cc in
+    let e : c.symbol_place.result ≡ stepped_source s.depth s.rows s.symbol m.step c.args.p = cc in
     ap Ok e ∙ cond_below c.args.p (255 * s.depth * s.rows) _ _ h
