@@ -10,8 +10,8 @@ use Rattle.worst.proofs.WorstSteps.{above_held, below_turned, above_turned, equa
 
 module _ {X : Type 0} (cmp : X → X → Ordering) (t : TotalOrder cmp) where
   -- the order as std has it
-  abbrev as_total : IsTotalOrder (λ (x y : X) (r : Ordering). r ≡ cmp x y)
-  as_total = lawful _ cmp t (λ x y r h. h)
+  abbrev as_total : IsTotalOrder cmp
+  as_total = lawful cmp t
 
   -- none is above itself
   not_above_itself : (x : X) → cmp x x ≡ Greater → ⊥

@@ -44,7 +44,6 @@ markers_total =
           ap (λ t. marker_of t x.count) e.0 ∙ ap (λ t. marker_of y.digits t) e.1;
     }
 
--- answers that are those of a total order make an order lawful
-abbrev pub lawful : {X : Type 0} (R : X → X → Ordering → Type 0) (cmp : X → X → Ordering) → TotalOrder cmp → ((x y : X) (r : Ordering) → R x y r → r ≡ cmp x y) → IsTotalOrder R
-lawful R cmp t says =
-    record { cmp = cmp; says = says; flip = t.turned; trans = t.passed_on; alike = λ x y z e. ap (λ w. cmp w z) (t.same x y e) }
+-- a total order is lawful as std has it
+abbrev pub lawful : {X : Type 0} (cmp : X → X → Ordering) → TotalOrder cmp → IsTotalOrder cmp
+lawful cmp t = record { antisymm = t.turned; trans = t.passed_on; congr = λ x y z e. ap (λ w. cmp w z) (t.same x y e) }

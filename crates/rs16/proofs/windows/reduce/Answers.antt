@@ -20,7 +20,7 @@ loop-h-preserved c =
           let flag : get_or c.args.has.now h 0 ≤ 1 = c.requires.flags h lh in
           let one : get_or c.args.has.now h 0 ≡ 1 = omega (arith, w.if-has-h-eq0.false) in
           let got : Monic 16 n a × Cleared s a (h + 1) =
-          taken_off 16 s a c.loop-h.r (get_or c.args.rows.now h []) n h c.applied-v.result c.applied-v.type-inv (omega arith) la
+          taken_off 16 s a c.loop-h.r (get_or c.args.rows.now h []) n h c.applied-v.result c.applied-v.type_inv (omega arith) la
           c.loop-h.invariant.1 c.loop-h.invariant.2 (c.requires.pivots h lh one) c.applied-v.ensures w.combined-next.ensures in
           subst (λ (z : List ℕ). (length z ≡ 17) × Monic 16 n z × Cleared s z (h + 1)) (sym w.r-is) (la, got.0, got.1)
       | else-v-ne0 w ↦

@@ -35,7 +35,7 @@ loop-n-preserved c =
     let lq : length q ≡ 17 = search rules in
     let lhas : length c.loop-n.has ≡ 16 = c.loop-n.invariant.1 in
     let p : Pivot 16 s (n + 1) h q =
-    new_pivot 16 s r q n h v c.loop-n-test.true c.reduce-got.ensures.monic c.reduce-got.ensures.cleared c.applied-v.ensures c.applied-v.type-inv
+    new_pivot 16 s r q n h v c.loop-n-test.true c.reduce-got.ensures.monic c.reduce-got.ensures.cleared c.applied-v.ensures c.applied-v.type_inv
     (λ e. c.reduce-got.ensures.other lh (sym c.applied-v.ensures ∙ e)) lq
     (λ k lk. c.multiplied-pivot.ensures k lk ∙ ap (λ f. f ⊗ get_or r k 0) c.inverse.ensures) in (
       length-set c.loop-n.rows h q ∙ c.loop-n.invariant.0,

@@ -13,13 +13,13 @@ returns g c =
     record {
       told = λ o.
           let h =
-          noted_records o.cmp c.args.«record» before.slots.now after before.used c.len-n.result c.insert-self.result c.len-n.ensures
+          noted_records g.T.Ord.cmp c.args.«record» before.slots.now after before.used c.len-n.result c.insert-self.result c.len-n.ensures
           (c.insert-self.ensures o)
           in
           record { records_are = h.0; slots_are = h.1 };
       worst = λ o xs g'.
           let h =
-          noted_records o.cmp c.args.«record» before.slots.now after before.used c.len-n.result c.insert-self.result c.len-n.ensures
+          noted_records g.T.Ord.cmp c.args.«record» before.slots.now after before.used c.len-n.result c.insert-self.result c.len-n.ensures
           (c.insert-self.ensures o)
           in
           worst_records o c.args.«record» xs before.slots.now after before.used c.insert-self.result c.insert-self.auto.slots h.0 g';

@@ -7,8 +7,8 @@ use Rattle.worst.proofs.noting.note_marker.Goals as goal
 pub returns : goal.returns
 returns c =
     record {
-      told = c.note.ensures.told (lawful _ marker_order markers_total (λ x y r h. grind (arith, nat_tests)));
-      worst = c.note.ensures.worst (lawful _ marker_order markers_total (λ x y r h. grind (arith, nat_tests)));
+      told = c.note.ensures.told (lawful marker_order markers_total);
+      worst = c.note.ensures.worst (lawful marker_order markers_total);
       size = c.note.ensures.size;
       lent = c.note.ensures.lent;
     }

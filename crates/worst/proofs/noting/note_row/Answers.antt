@@ -7,8 +7,8 @@ use Rattle.worst.proofs.noting.note_row.Goals as goal
 pub returns : goal.returns
 returns c =
     record {
-      told = c.note.ensures.told (lawful _ row_order rows_total (λ x y r h. grind (arith, nat_tests)));
-      worst = c.note.ensures.worst (lawful _ row_order rows_total (λ x y r h. grind (arith, nat_tests)));
+      told = c.note.ensures.told (lawful row_order rows_total);
+      worst = c.note.ensures.worst (lawful row_order rows_total);
       size = c.note.ensures.size;
       lent = c.note.ensures.lent;
     }

@@ -60,7 +60,7 @@ returns c s step p at =
           subst On is (to_round s step p w.octet w.base w.first w.offset here last end near)
       | else-next-self-2 v ↦
           let far : row_length s ≤ w.first + s.symbol = omega (arith, at.row_length_is, at.symbol_is) in
-          subst On (sym v.first_is) (to_begin s step p w.octet w.base w.first w.offset here last end far)
+          subst On (sym v.first-is) (to_begin s step p w.octet w.base w.first w.offset here last end far)
     ] in
     record {
       symbol_is = at.symbol_is;

@@ -6,38 +6,27 @@ use Rattle.mapping.proofs.walk.Walk.at.Goals as goal
 
 pub overflow_mul-result : goal.overflow_mul-result
 overflow_mul-result c =
-    omega (arith, column_lt c.args.settings.now _ _ c.args.step c.symbol-symbol.ensures c.row_length-row_length.ensures, c.row_length-row_length.type-inv)
+    omega (arith, column_lt c.args.settings.now _ _ c.args.step c.symbol-symbol.ensures c.row_length-row_length.ensures, c.row_length-row_length.type_inv)
 
 pub overflow_mul-result-3 : goal.overflow_mul-result-3
 overflow_mul-result-3 c =
-    omega (arith, column_lt c.args.settings.now _ _ (c.args.p / c.symbol-symbol.result / c.rows-rows.result) c.symbol-symbol.ensures c.row_length-row_length.ensures, c.row_length-row_length.type-inv)
+    omega (arith, column_lt c.args.settings.now _ _ (c.args.p / c.symbol-symbol.result / c.rows-rows.result) c.symbol-symbol.ensures c.row_length-row_length.ensures, c.row_length-row_length.type_inv)
 
 pub overflow_mul-result-5 : goal.overflow_mul-result-5
 overflow_mul-result-5 c =
     let x = c.args.p / c.symbol-symbol.result in
-    omega (arith, column_lt c.args.settings.now _ _ (x / c.rows-rows.result + x % c.rows-rows.result * c.args.step) c.symbol-symbol.ensures c.row_length-row_length.ensures, c.row_length-row_length.type-inv)
+    omega (arith, column_lt c.args.settings.now _ _ (x / c.rows-rows.result + x % c.rows-rows.result * c.args.step) c.symbol-symbol.ensures c.row_length-row_length.ensures, c.row_length-row_length.type_inv)
 
 pub invariant_of-result : goal.invariant_of-result
 invariant_of-result c =
-    let s = c.args.settings.now in (
-      symbol_le_row s _ _ c.symbol-symbol.ensures c.row_length-row_length.ensures,
-      (
-        omega (arith, row_length_high s, c.row_length-row_length.ensures),
-        (
-          omega (arith, block_length_high s, c.block_length.ensures),
-          (
-            column_lt s _ _ c.args.step c.symbol-symbol.ensures c.row_length-row_length.ensures,
-            (
-              mod_below _ _ (omega (arith, (ranges s).symbol_low, c.symbol-symbol.ensures)),
-              (
-                base_lt s _ _ _ _ c.rows-rows.ensures c.row_length-row_length.ensures c.block_length.ensures,
-                (
-                  column_lt s _ _ _ c.symbol-symbol.ensures c.row_length-row_length.ensures,
-                  (column_lt s _ _ _ c.symbol-symbol.ensures c.row_length-row_length.ensures, tt),
-                ),
-              ),
-            ),
-          ),
-        ),
-      ),
-    )
+    let s = c.args.settings.now in
+    record {
+      symbol_small = symbol_le_row s _ _ c.symbol-symbol.ensures c.row_length-row_length.ensures;
+      row_small = omega (arith, row_length_high s, c.row_length-row_length.ensures);
+      block_small = omega (arith, block_length_high s, c.block_length.ensures);
+      shift_low = column_lt s _ _ c.args.step c.symbol-symbol.ensures c.row_length-row_length.ensures;
+      octet_low = mod_below _ _ (omega (arith, (ranges s).symbol_low, c.symbol-symbol.ensures));
+      base_low = base_lt s _ _ _ _ c.rows-rows.ensures c.row_length-row_length.ensures c.block_length.ensures;
+      first_low = column_lt s _ _ _ c.symbol-symbol.ensures c.row_length-row_length.ensures;
+      offset_low = column_lt s _ _ _ c.symbol-symbol.ensures c.row_length-row_length.ensures;
+    }
