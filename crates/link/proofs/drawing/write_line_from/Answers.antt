@@ -9,10 +9,10 @@ loop-written-preserved g c =
     let line = block_line c.args.settings.now (g.M.Mapping.meaning c.args.mapping.now) c.args.memory.now in
     let room : length (take (c.min-size.result - c.loop-written.written) (drop c.loop-written.written c.loop-written.out)) ≤ c.min-size.result - c.loop-written.written =
     simp length-take (omega arith) in
-    let few : c.write-piece-taken.result ≤ c.min-size.result - c.loop-written.written = omega (arith, c.write-piece-taken.ensures.fits) in (
+    let few : c.write_piece-taken.result ≤ c.min-size.result - c.loop-written.written = omega (arith, c.write_piece-taken.ensures.fits) in (
       front_more (from line c.args.place) (from line (c.args.place + c.loop-written.written)) c.loop-written.written (c.min-size.result - c.loop-written.written)
-          c.write-piece-taken.result c.args.out.now c.loop-written.out c.write-piece-taken.new.out
-          c.loop-written.invariant.0 c.write-piece-taken.ensures.front
+          c.write_piece-taken.result c.args.out.now c.loop-written.out c.write_piece-taken.new.out
+          c.loop-written.invariant.0 c.write_piece-taken.ensures.front
           (λ i l. ap (λ n. get_or line n 0) (add_assoc c.args.place c.loop-written.written i))
           (omega (arith, c.min-size.ensures, c.loop-written.invariant.0.size)) few,
       omega arith,

@@ -4,8 +4,8 @@ use Rattle.settings.proofs.Ranges.{depth_low}
 use Rattle.link.proofs.RowWords.{EncodedUpTo, word_there, encoded_from_answer, encoded_none, encoded_more, encoded_all}
 use Rattle.link.proofs.encoding.encode_frame.Goals as goal
 
-pub slice-bounds-copy-from-slice-end : goal.slice-bounds-copy-from-slice-end
-slice-bounds-copy-from-slice-end g c =
+pub slice_bounds-copy_from_slice-end : goal.slice_bounds-copy_from_slice-end
+slice_bounds-copy_from_slice-end g c =
     let few = (g.met.C.Code.lawful c.args.code.now).information_fits in
     let within : length c.args.frame.now ≤ length c.args.row.now =
     omega (arith, c.requires.1.0, c.requires.1.1, mul-le (g.C.Code.meaning c.args.code.now).information c.args.depth 255 c.args.depth few (omega arith)) in
@@ -16,8 +16,8 @@ loop-word-init g c =
     let few = (g.met.C.Code.lawful c.args.code.now).information_fits in
     let within : length c.args.frame.now ≤ length c.args.row.now =
     omega (arith, c.requires.1.0, c.requires.1.1, mul-le (g.C.Code.meaning c.args.code.now).information c.args.depth 255 c.args.depth few (omega arith)) in
-    encoded_none c.args.depth (g.C.Code.meaning c.args.code.now) c.args.frame.now c.args.row.now c.copy-from-slice.new.self
-    (length c.args.frame.now - 0) c.requires.1.0 c.requires.1.1 within (omega arith) c.copy-from-slice.ensures.after
+    encoded_none c.args.depth (g.C.Code.meaning c.args.code.now) c.args.frame.now c.args.row.now c.copy_from_slice.new.self
+    (length c.args.frame.now - 0) c.requires.1.0 c.requires.1.1 within (omega arith) c.copy_from_slice.ensures.after
 
 pub loop-word-preserved : goal.loop-word-preserved
 loop-word-preserved g c =

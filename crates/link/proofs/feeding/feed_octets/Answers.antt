@@ -2,19 +2,19 @@ use Rattle.std.proofs.Common.{◌≡◌, sym, refl, ◌∙◌, arith}
 use Rattle.link.proofs.FeedLoop.{fed_whole, fed_to_report, fed_to_end, fed_on, fits_still, size_still}
 use Rattle.link.proofs.feeding.feed_octets.Goals as goal
 
-pub returns-then-is-some : goal.returns-then-is-some
-returns-then-is-some g c =
+pub returns-then-is_some : goal.returns-then-is_some
+returns-then-is_some g c =
     fed_to_report c.args.settings.now (g.M.Mapping.meaning c.args.mapping.now) c.args.start c.args.memory.now c.args.input.now
     c.loop-octet.taken c.loop-octet.mode c.loop-octet.memory c.loop-octet.octet-index c.loop-octet.invariant.3 c.loop-octet.invariant.2
     _ c.hear-after.result.0 c.hear-after.result.1 c.hear-after.new.memory (omega arith) refl c.hear-after.ensures
-    (sym c.if-is-some.ensures)
+    (sym c.if-is_some.ensures)
 
-pub returns-then-block-ends : goal.returns-then-block-ends
-returns-then-block-ends g c =
+pub returns-then-block_ends : goal.returns-then-block_ends
+returns-then-block_ends g c =
     fed_to_end c.args.settings.now (g.M.Mapping.meaning c.args.mapping.now) c.args.start c.args.memory.now c.args.input.now
     c.loop-octet.taken c.loop-octet.mode c.loop-octet.memory c.loop-octet.octet-index c.loop-octet.invariant.3 c.loop-octet.invariant.2
     _ c.hear-after.result.0 c.hear-after.result.1 c.hear-after.new.memory (omega arith) refl c.hear-after.ensures
-    c.is-fresh.result c.is-fresh.ensures (sym c.if-is-some.ensures) (sym c.if-block-ends.ensures)
+    c.is_fresh.result c.is_fresh.ensures (sym c.if-is_some.ensures) (sym c.if-block_ends.ensures)
 
 pub loop-octet-preserved : goal.loop-octet-preserved
 loop-octet-preserved g c =
@@ -30,7 +30,7 @@ loop-octet-preserved g c =
       fed_on s m c.args.start c.args.memory.now c.args.input.now
           c.loop-octet.taken c.loop-octet.mode c.loop-octet.memory c.loop-octet.octet-index c.loop-octet.invariant.3 c.loop-octet.invariant.2
           _ c.hear-after.result.0 c.hear-after.result.1 c.hear-after.new.memory (omega arith) refl c.hear-after.ensures
-          (sym c.if-is-some.ensures) (sym c.if-block-ends.ensures),
+          (sym c.if-is_some.ensures) (sym c.if-block_ends.ensures),
     )
 
 pub returns : goal.returns

@@ -8,10 +8,10 @@ loop-word-init g c = mended_none c.args.depth (g.C.Code.meaning c.args.code.now)
 pub loop-word-preserved : goal.loop-word-preserved
 loop-word-preserved g c =
     let code = g.C.Code.meaning c.args.code.now in
-    subst (λ v. MendedUpTo c.args.depth code c.args.row.now (c.loop-word.word + 1) c.mend-word-mended.new.row c.mend-word-mended.new.altered v)
+    subst (λ v. MendedUpTo c.args.depth code c.args.row.now (c.loop-word.word + 1) c.mend_word-mended.new.row c.mend_word-mended.new.altered v)
     (sym c.and-valid.ensures)
-    (mended_more c.args.depth code c.args.row.now c.loop-word.word c.loop-word-test.true c.loop-word.row c.mend-word-mended.new.row
-    c.loop-word.altered c.mend-word-mended.new.altered c.loop-word.valid c.mend-word-mended.result c.loop-word.invariant c.mend-word-mended.ensures)
+    (mended_more c.args.depth code c.args.row.now c.loop-word.word c.loop-word-test.true c.loop-word.row c.mend_word-mended.new.row
+    c.loop-word.altered c.mend_word-mended.new.altered c.loop-word.valid c.mend_word-mended.result c.loop-word.invariant c.mend_word-mended.ensures)
 
 pub returns : goal.returns
 returns g c =

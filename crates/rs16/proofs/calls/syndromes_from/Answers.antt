@@ -8,7 +8,7 @@ loop-m-preserved c = (
   length-set _ _ _ ∙ c.loop-m.invariant.0,
   below_more _ _
       (λ k h. let ne : k ≢ c.loop-m.m = omega arith in rw get_or-set_other (c.loop-m.invariant.1 k h))
-      (let lt : c.loop-m.m < length c.loop-m.syndromes = omega arith in rw get_or-set_same c.value-at.ensures),
+      (let lt : c.loop-m.m < length c.loop-m.syndromes = omega arith in rw get_or-set_same c.value_at.ensures),
 )
 
 pub returns : goal.returns

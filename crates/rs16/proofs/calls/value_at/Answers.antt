@@ -18,8 +18,8 @@ loop-octet-preserved c =
     let x : ℕ = root c.args.m in
     let s : ℕ = c.loop-octet.sum in
     let e : ℕ = element (get_or w i 0) in
-    let is : c.times-power.result ⊕ c.element-of.result ≡ (s ⊗ x) ⊕ e =
-    ap₂ ◌⊕◌ (c.times-power.ensures ∙ ap (λ z. s ⊗ z) (root_power c.args.m)) c.element-of.ensures.value in
+    let is : c.times_power.result ⊕ c.element_of.result ≡ (s ⊗ x) ⊕ e =
+    ap₂ ◌⊕◌ (c.times_power.ensures ∙ ap (λ z. s ⊗ z) (root_power c.args.m)) c.element_of.ensures.value in
     let size : length w ≡ 32 = search rules in
     subst (λ (z : ℕ). IsOctet z × (z ⊗ pow x (length w - (i + 1)) ⊕ value (drop (i + 1) w) x ≡ value w x)) (sym is)
     (octet_add (s ⊗ x) e (octet_mul s x) (element_octet (get_or w i 0)), value_more w x s i (omega arith) c.loop-octet.invariant.1)

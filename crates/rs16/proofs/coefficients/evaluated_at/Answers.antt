@@ -15,5 +15,5 @@ loop-i-preserved c =
     let x : ℕ = pow alpha c.args.e in
     let i : ℕ = c.loop-i.i in
     let size : length p ≡ 17 = search rules in
-    ap (λ z. get_or p (i - 1) 0 ⊕ z) (c.times-power.ensures ∙ mul_comm c.loop-i.sum x ∙ ap (λ z. x ⊗ z) c.loop-i.invariant)
+    ap (λ z. get_or p (i - 1) 0 ⊕ z) (c.times_power.ensures ∙ mul_comm c.loop-i.sum x ∙ ap (λ z. x ⊗ z) c.loop-i.invariant)
     ∙ eval_down p x i (omega arith) (omega arith)

@@ -8,8 +8,8 @@ use Rattle.rs16.proofs.places.change_at.Goals as goal
 pub returns : goal.returns
 unfolding change
 returns c =
-    let x = c.locator-at-x.ensures in
-    c.line-octet-of.ensures.value
+    let x = c.locator_at-x.ensures in
+    c.line_octet_of.ensures.value
     ∙ ap line_octet (c.product.ensures
     ∙ ap₂ ◌⊗◌ (c.evaluated.ensures ∙ ap (eval c.args.o) x)
-    (c.inverse.ensures ∙ ap inv (c.product-below.ensures ∙ ap₂ ◌⊗◌ (c.slope-at.ensures ∙ ap (slope c.args.p) x) c.lift-at.ensures)))
+    (c.inverse.ensures ∙ ap inv (c.product-below.ensures ∙ ap₂ ◌⊗◌ (c.slope_at.ensures ∙ ap (slope c.args.p) x) c.lift_at.ensures)))

@@ -18,12 +18,12 @@ loop-k-preserved c =
     let low : k < 255 = omega arith in
     elim c.if-values-k-eq0.branch [
       | then-values-k-eq0 w ↦
-          let r : List ℕ = w.times-linear-next.result in
+          let r : List ℕ = w.times_linear-next.result in
           let size : length r ≡ 17 = search rules in
           subst (λ (z : List ℕ). (length z ≡ 17) × Alike z (from_roots (chosen (zero_at v) (k + 1)))) (sym w.p-is) (
             size,
-            product_more (zero_at v) k p r w.locator-at.result low c.requires (eq-eqb (get_or v k 0) 0 w.if-values-k-eq0.true) w.locator-at.ensures
-                c.loop-k.invariant.0 size c.loop-k.invariant.1 w.times-linear-next.ensures.lowest w.times-linear-next.ensures.others,
+            product_more (zero_at v) k p r w.locator_at.result low c.requires (eq-eqb (get_or v k 0) 0 w.if-values-k-eq0.true) w.locator_at.ensures
+                c.loop-k.invariant.0 size c.loop-k.invariant.1 w.times_linear-next.ensures.lowest w.times_linear-next.ensures.others,
           )
       | else-values-k-eq0 w ↦
           subst (λ (z : List ℕ). (length z ≡ 17) × Alike z (from_roots (chosen (zero_at v) (k + 1)))) (sym w.p-is)

@@ -8,5 +8,5 @@ loop-k-preserved c = (
   length-set _ _ _ ∙ c.loop-k.invariant.0,
   below_more _ _
       (λ i h. let ne : i ≢ c.loop-k.k = omega arith in rw get_or-set_other (c.loop-k.invariant.1 i h))
-      (let lt : c.loop-k.k < length c.loop-k.values = omega arith in rw get_or-set_same (c.evaluated-at.ensures ∙ ap (eval c.args.p) (locator_power c.loop-k.k))),
+      (let lt : c.loop-k.k < length c.loop-k.values = omega arith in rw get_or-set_same (c.evaluated_at.ensures ∙ ap (eval c.args.p) (locator_power c.loop-k.k))),
 )

@@ -32,14 +32,14 @@ loop-j-preserved c =
     elim c.if-values-j-eq0.branch [
       | then-values-j-eq0+then-change-ne0 way ↦
           let here : zero_at v (254 - j) ≡ true = eq-eqb (get_or v (254 - j) 0) 0 way.if-values-j-eq0.true in
-          let x : ℕ = way.change-at-change.result in
+          let x : ℕ = way.change_at-change.result in
           finding_as (zero_at v) p o w (j + 1) (n + 1) m (set ps n j) (set os n (get_or w j 0 ⊕ x)) qs us way.count-is way.places-is way.octets-is
-          (finding_put (zero_at v) p o w size j n ps os low h (omega arith) here x (get_or w j 0 ⊕ x) way.change-at-change.ensures way.if-change-ne0.true refl)
+          (finding_put (zero_at v) p o w size j n ps os low h (omega arith) here x (get_or w j 0 ⊕ x) way.change_at-change.ensures way.if-change-ne0.true refl)
       | then-values-j-eq0+else-change-ne0 way ↦
           let here : zero_at v (254 - j) ≡ true = eq-eqb (get_or v (254 - j) 0) 0 way.if-values-j-eq0.true in
           finding_as (zero_at v) p o w (j + 1) n m ps os qs us way.count-is way.places-is way.octets-is
           (finding_kept (zero_at v) p o w size j n ps os low h
-          (kept_unchanged (zero_at v) p o w size j n ps os low h here (sym way.change-at-change.ensures ∙ way.if-change-ne0.false)))
+          (kept_unchanged (zero_at v) p o w size j n ps os low h here (sym way.change_at-change.ensures ∙ way.if-change-ne0.false)))
       | else-values-j-eq0 way ↦
           let gone : zero_at v (254 - j) ≡ false = ne_eqb (get_or v (254 - j) 0) 0 way.if-values-j-eq0.false in
           finding_as (zero_at v) p o w (j + 1) n m ps os qs us way.count-is way.places-is way.octets-is

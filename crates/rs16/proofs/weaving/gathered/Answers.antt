@@ -9,8 +9,8 @@ pub bounds-row-place : goal.bounds-row-place
 bounds-row-place c =
     omega (arith, c.loop-j.invariant.1, place_below c.args.depth c.args.word c.loop-j.j 255 c.requires.1 c.loop-j-test.true, c.requires.0)
 
-pub overflow-add-place : goal.overflow-add-place
-overflow-add-place c =
+pub overflow_add-place : goal.overflow_add-place
+overflow_add-place c =
     let at : c.loop-j.place ≡ word_place c.args.depth c.args.word c.loop-j.j = c.loop-j.invariant.1 in
     let low : word_place c.args.depth c.args.word c.loop-j.j < 255 * c.args.depth = place_below c.args.depth c.args.word c.loop-j.j 255 c.requires.1 c.loop-j-test.true in
     search rules

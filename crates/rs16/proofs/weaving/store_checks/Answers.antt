@@ -8,8 +8,8 @@ pub bounds-row-at : goal.bounds-row-at
 bounds-row-at c =
     omega (arith, c.loop-k.invariant.0, place_below c.args.depth c.args.word (223 + c.loop-k.k) 255 c.requires.1 (omega arith), c.requires.0, c.loop-k.auto.row)
 
-pub overflow-add-at : goal.overflow-add-at
-overflow-add-at c =
+pub overflow_add-at : goal.overflow_add-at
+overflow_add-at c =
     let low : word_place c.args.depth c.args.word 223 < 255 * c.args.depth = place_below c.args.depth c.args.word 223 255 c.requires.1 (omega arith) in
     search rules
 

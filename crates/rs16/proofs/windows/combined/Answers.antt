@@ -10,5 +10,5 @@ loop-i-preserved c = (
       (λ k h. let ne : k ≢ c.loop-i.i = omega arith in rw get_or-set_other (c.loop-i.invariant.1 k h))
       (let lt : c.loop-i.i < length c.loop-i.a = omega arith in rw get_or-set_same
       (ap (λ z. get_or c.args.r c.loop-i.i 0 ⊕ z)
-      (c.times-power.ensures ∙ ap (λ z. get_or c.args.q c.loop-i.i 0 ⊗ z) c.logarithm-e.ensures.power ∙ mul_comm (get_or c.args.q c.loop-i.i 0) c.args.f))),
+      (c.times_power.ensures ∙ ap (λ z. get_or c.args.q c.loop-i.i 0 ⊗ z) c.logarithm-e.ensures.power ∙ mul_comm (get_or c.args.q c.loop-i.i 0) c.args.f))),
 )

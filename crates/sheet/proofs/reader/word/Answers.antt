@@ -2,9 +2,9 @@ use Rattle.std.proofs.Common.{◌++◌, sym, ap, ◌∙◌, arith, take_all}
 use Rattle.sheet.proofs.Literal.{ends_inside, other_inside, literal_more}
 use Rattle.sheet.proofs.reader.word.Goals as goal
 
-pub returns-in-default : goal.returns-in-default
-returns-in-default c =
-    ends_inside c.args.letters.now c.args.line.now c.loop-letter.rest.now c.loop-letter.letter-index (omega arith) c.loop-letter.invariant c.in-default.ensures
+pub returns-in_default : goal.returns-in_default
+returns-in_default c =
+    ends_inside c.args.letters.now c.args.line.now c.loop-letter.rest.now c.loop-letter.letter-index (omega arith) c.loop-letter.invariant c.in_default.ensures
 
 pub returns-then-octet-from : goal.returns-then-octet-from
 returns-then-octet-from c =

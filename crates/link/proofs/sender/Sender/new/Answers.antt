@@ -2,5 +2,5 @@ use Rattle.std.proofs.Common.{arith}
 use Rattle.link.proofs.Lengths.{line_some}
 use Rattle.link.proofs.sender.Sender.new.Goals as goal
 
-pub invariant-of-result : goal.invariant-of-result
-invariant-of-result g c = (omega arith, (line_some c.args.settings, tt))
+pub invariant_of-result : goal.invariant_of-result
+invariant_of-result g c = (omega arith, (line_some c.args.settings, tt))

@@ -12,9 +12,9 @@ use Rattle.rs16.proofs.calls.Rs16.syndromes.Goals as goal
 pub returns-in-Ok : goal.returns-in-Ok
 returns-in-Ok c =
     let w : List ℕ = word_of c.args.depth c.args.word c.args.row.now in
-    subst (λ (o : Option ShapeFault). SyndromesGiven o w 0 c.syndromes-from.result) (sym c.in-Ok.ensures) (
+    subst (λ (o : Option ShapeFault). SyndromesGiven o w 0 c.syndromes_from.result) (sym c.in-Ok.ensures) (
       refl,
-      c.syndromes-from.ensures
-          ∙ ap (λ r. tabulate 32 (λ m. value r (root m))) (c.residue-of.ensures ∙ ap residue c.gathered.ensures)
+      c.syndromes_from.ensures
+          ∙ ap (λ r. tabulate 32 (λ m. value r (root m))) (c.residue_of.ensures ∙ ap residue c.gathered.ensures)
           ∙ residue_syndromes w (word_size c.args.depth c.args.word c.args.row.now),
     )

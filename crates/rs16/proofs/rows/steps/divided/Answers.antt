@@ -12,4 +12,4 @@ returns c =
     let o = c.args.octet in
     let leads : bit_xor (r.a % 256) o ≡ bit_xor (octet_at (wide r) 0) o = ap (λ n. bit_xor n o) (omega arith) in
     wide_divided o (wide r) (wide c.added.result) (omega arith)
-    (c.added.ensures ∙ ap₂ bit_xor c.shifted.ensures (c.multiples-of.ensures ∙ ap (λ f. packed (multiples f)) (ap (λ n. bit_xor n o) (and_mask r.a 8) ∙ leads)))
+    (c.added.ensures ∙ ap₂ bit_xor c.shifted.ensures (c.multiples_of.ensures ∙ ap (λ f. packed (multiples f)) (ap (λ n. bit_xor n o) (and_mask r.a 8) ∙ leads)))

@@ -4,4 +4,4 @@ use Rattle.rs16.proofs.rows.steps.multiples_of.Goals as goal
 
 pub returns : goal.returns
 unfolding multiples
-returns c = omega (arith, c.multiples-part.ensures, c.multiples-part-2.ensures, c.multiples-part-3.ensures, c.multiples-part-4.ensures)
+returns c = omega (arith, c.multiples_part.ensures, c.multiples_part-2.ensures, c.multiples_part-3.ensures, c.multiples_part-4.ensures)
