@@ -1,6 +1,6 @@
 -- What it says that no check of a receiver's call fails, and what the invariants of a receiver say.
 use Rattle.std.proofs.Common.{◌≡◌, ℕ, ◌*◌, ◌<◌, ◌≤◌, Bool, true, false, cond, not, ◌||◌, eqb, ltb, List, length, take, drop, Some, None, Result, refl, ◌∙◌, subst, ap₂, arith}
-use Rattle.std.proofs.lemmas.Bool.{and_left, eqb-true, eq-eqb, lt-ltb, le-ltb, ltb-true, ltb-false}
+use Rattle.std.proofs.lemmas.Bool.{and_parts, eqb-true, eq-eqb, lt-ltb, le-ltb, ltb-true, ltb-false}
 use Rattle.settings.specs.declared.Settings.{Settings}
 use Rattle.settings.specs.Lengths.{row_length, block_length}
 use Rattle.code.specs.Meaning.{CodeMeaning}
@@ -8,7 +8,7 @@ use Rattle.mapping.specs.Meaning.{MappingMeaning}
 use Rattle.link.specs.Frames.{row_at}
 use Rattle.link.specs.RowMending.{MendedRow}
 use Rattle.link.specs.declared.mending.RowFault.{RowFault}
-use Rattle.link.specs.Refusal.{memory_fits, mapping_fits}
+use Rattle.link.specs.Refusal.{memory_fits, mapping_fits, block_fits}
 use Rattle.link.specs.ReceiverFits.{next_is_fit}
 use Rattle.link.specs.ReceiverRefusal.{feed_refusal, next_refusal, show_refusal}
 use Rattle.link.proofs.Tables.{none_first, none_only}
@@ -39,8 +39,8 @@ module _ (s : Settings) where
   pub feed_fits : (m : MappingMeaning) (answered : ℕ) (memory : List ℕ) → feed_refusal s m answered memory ≡ None
       → (length memory ≡ block_length s) × (s.rows ≤ answered)
   feed_fits m answered memory e =
-      let p = none_first _ _ _ e in
-      (eqb-true (length memory) (block_length s) (and_left (memory_fits s memory) (mapping_fits s m) p.0), ltb-false answered s.rows (none_only _ _ p.1))
+      let p = none_first (block_fits s m memory) _ _ e in
+      (eqb-true (length memory) (block_length s) (and_parts (memory_fits s memory) (mapping_fits s m) p.0).0, ltb-false answered s.rows (none_only _ _ p.1))
 
   pub next_fits : (answered : ℕ) (memory : List ℕ) → next_refusal s answered memory ≡ None → (length memory ≡ block_length s) × (answered < s.rows)
   next_fits answered memory e =

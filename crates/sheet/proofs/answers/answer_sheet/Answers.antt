@@ -3,14 +3,14 @@ use Rattle.std.proofs.lemmas.Result.{IfOk-from_err}
 use Rattle.sheet.specs.Answers.{sheet_limit, line_feed}
 use Rattle.sheet.proofs.Lines.{completes_none, completes_more, completes_all}
 use Rattle.sheet.proofs.answers.answer_sheet.Goals as goal
-use Rattle.sheet.proofs.answers.answer_sheet.Goals.{then-sheet-gt-SHEET-LIMIT, else-sheet-gt-SHEET-LIMIT}
+use Rattle.sheet.proofs.answers.answer_sheet.Goals.{then-sheet-gt-SHEET_LIMIT, else-sheet-gt-SHEET_LIMIT}
 
 pub loop-rest-init : goal.loop-rest-init
 loop-rest-init c =
     let whole : c.if-sheet-gt-SHEET_LIMIT.rest.now ≡ take sheet_limit c.args.sheet.now =
     elim c.if-sheet-gt-SHEET_LIMIT.branch [
-      | then-sheet-gt-SHEET-LIMIT w ↦ ap (λ r. r.now) w.rest-is
-      | else-sheet-gt-SHEET-LIMIT w ↦ ap (λ r. r.now) w.rest-is ∙ sym (take_all sheet_limit c.args.sheet.now w.if-sheet-gt-SHEET_LIMIT.false)
+      | then-sheet-gt-SHEET_LIMIT w ↦ ap (λ r. r.now) w.rest-is
+      | else-sheet-gt-SHEET_LIMIT w ↦ ap (λ r. r.now) w.rest-is ∙ sym (take_all sheet_limit c.args.sheet.now w.if-sheet-gt-SHEET_LIMIT.false)
     ] in
     completes_none (take sheet_limit c.args.sheet.now) c.if-sheet-gt-SHEET_LIMIT.rest.now (string_bytes c.new-answers.result) whole c.new-answers.ensures.bytes
 

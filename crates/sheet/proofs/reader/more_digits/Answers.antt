@@ -3,7 +3,7 @@ use Rattle.std.proofs.lemmas.Fmt.{decimal_digit}
 use Rattle.std.proofs.lemmas.Result.{err_from_is_err_and}
 use Rattle.sheet.proofs.Numbers.{number_ends, number_other, number_unclosed, closed_here, five_digits_block, few_digits, digits_more}
 use Rattle.sheet.proofs.reader.more_digits.Goals as goal
-use Rattle.sheet.proofs.reader.more_digits.Goals.{in-default-octet-via-then-octet-lt48, in-default-octet-via-else-octet-lt48+else-octet-lt58}
+use Rattle.sheet.proofs.reader.more_digits.Goals.{in_default-octet-via-then-octet-lt48, in_default-octet-via-else-octet-lt48+else-octet-lt58}
 
 pub loop-init : goal.loop-init
 loop-init c = (refl, omega arith, omega arith, ap length (decimal_digit c.args.leading (omega arith)))
@@ -22,8 +22,8 @@ pub returns-in_default-octet : goal.returns-in_default-octet
 returns-in_default-octet c =
     number_other c.loop.value (decimal c.args.leading ++ c.args.line.now) c.loop.rest.now c.in-Some.octet c.in-Some.after.now
     (few_digits c.loop.value c.loop.counter (omega arith) c.loop.invariant.2) c.loop.invariant.0 c.in-Some.ensures
-    (λ d. elim c.in_default-octet.branch [ in-default-octet-via-then-octet-lt48 w ↦ omega arith | in-default-octet-via-else-octet-lt48+else-octet-lt58 w ↦ omega arith ])
-    (λ e. elim c.in_default-octet.branch [ in-default-octet-via-then-octet-lt48 w ↦ omega arith | in-default-octet-via-else-octet-lt48+else-octet-lt58 w ↦ omega arith ])
+    (λ d. elim c.in_default-octet.branch [ in_default-octet-via-then-octet-lt48 w ↦ omega arith | in_default-octet-via-else-octet-lt48+else-octet-lt58 w ↦ omega arith ])
+    (λ e. elim c.in_default-octet.branch [ in_default-octet-via-then-octet-lt48 w ↦ omega arith | in_default-octet-via-else-octet-lt48+else-octet-lt58 w ↦ omega arith ])
 
 pub loop-preserved : goal.loop-preserved
 loop-preserved c =

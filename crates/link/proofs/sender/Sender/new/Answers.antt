@@ -3,4 +3,4 @@ use Rattle.link.proofs.Lengths.{line_some}
 use Rattle.link.proofs.sender.Sender.new.Goals as goal
 
 pub invariant_of-result : goal.invariant_of-result
-invariant_of-result g c = (omega arith, (line_some c.args.settings, tt))
+invariant_of-result g c = record { put_most = omega arith; drawn_short = line_some c.args.settings }
