@@ -10,7 +10,7 @@ use Rattle.mapping.specs.Meaning.{MappingMeaning}
 use Rattle.link.specs.Frames.{row_at, with_row}
 use Rattle.link.specs.RowMending.{MendedRow}
 use Rattle.link.specs.declared.mending.RowFault.{RowFault}
-use Rattle.link.proofs.Rows.{row_top, length_with_row}
+use Rattle.link.proofs.Rows.{row_new, row_other, row_top, length_with_row}
 use Rattle.promise.proofs.Found.{Arrived, RowFound}
 
 module _ (s : Settings) (m : MappingMeaning) (T : List ℕ) (base : ℕ) (code : CodeMeaning) where
