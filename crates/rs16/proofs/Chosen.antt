@@ -1,6 +1,6 @@
 -- The powers that pass a test, as a list of their locators; and the roots of a polynomial among them.
 use Rattle.std.proofs.Common.{◌≡◌, ℕ, zero, suc, ◌+◌, ◌<◌, ◌≤◌, Bool, true, false, cond, eqb, List, [], ◌∷◌, length, get_or, sym, refl, ap, ◌∙◌, subst, inl, inr, le_refl, le_of_suc-le-suc, not-suc-le-zero, eq-or-lt_of_le, add-one, arith}
-use Rattle.std.specs.List.{AllByRecursion as All}
+use Rattle.std.specs.List.{AllByRecursion}
 use Rattle.std.proofs.ByRecursion.{All-from_get_or}
 use Rattle.std.proofs.lemmas.Bool.{cond_both, cases_lt, eqb-true}
 use Rattle.rs16.specs.Field.{IsOctet}
@@ -20,7 +20,7 @@ module _ (test : ℕ → Bool) where
       (λ e. ((k, le_refl (suc k), refl), under_more k (chosen test k) (chosen_under k)))
       (λ n. under_more k (chosen test k) (chosen_under k))
 
-  pub chosen_octets : (n : ℕ) → All IsOctet (chosen test n)
+  pub chosen_octets : (n : ℕ) → AllByRecursion IsOctet (chosen test n)
   chosen_octets n = under_octets n (chosen test n) (chosen_under n)
 
   pub chosen_distinct : (n : ℕ) → n ≤ 255 → Distinct (chosen test n)
@@ -82,11 +82,11 @@ root_at p k = eqb (eval p (locator k)) 0
 pub root_at_value : (p v : List ℕ) → Values p v → (k : ℕ) → k < 255 → zero_at v k ≡ root_at p k
 root_at_value p v h k l = ap (λ z. eqb z 0) (h.1 k l)
 
-chosen_roots : (p : List ℕ) (n : ℕ) → All (λ x. eval p x ≡ 0) (chosen (root_at p) n)
+chosen_roots : (p : List ℕ) (n : ℕ) → AllByRecursion (λ x. eval p x ≡ 0) (chosen (root_at p) n)
 unfolding chosen
 chosen_roots p zero = tt
 chosen_roots p (suc k) =
-    cond_both (root_at p k) (locator k ∷ chosen (root_at p) k) (chosen (root_at p) k) (All (λ x. eval p x ≡ 0))
+    cond_both (root_at p k) (locator k ∷ chosen (root_at p) k) (chosen (root_at p) k) (AllByRecursion (λ x. eval p x ≡ 0))
     (λ e. (eqb-true (eval p (locator k)) 0 e, chosen_roots p k)) (λ n. chosen_roots p k)
 
 -- a solution of bound t has at most t roots
@@ -107,11 +107,11 @@ few_zeros t p v s sol values =
 
 -- A polynomial that is 0 at the locator of each power that passes, and has it as a root just once.
 pub record Separates (test : ℕ → Bool) (p : List ℕ) : Type 0 where
-  pub octets : All IsOctet p
+  pub octets : AllByRecursion IsOctet p
   pub root : (k : ℕ) → k < 255 → test k ≡ true → eval p (locator k) ≡ 0
   pub simple : (k : ℕ) → k < 255 → test k ≡ true → ¬ (slope p (locator k) ≡ 0)
 
-pub octet_at_lem : (p : List ℕ) → All IsOctet p → (k : ℕ) → IsOctet (get_or p k 0)
+pub octet_at_lem : (p : List ℕ) → AllByRecursion IsOctet p → (k : ℕ) → IsOctet (get_or p k 0)
 octet_at_lem [] h k = octet_zero
 octet_at_lem (c ∷ p) h zero = h.0
 octet_at_lem (c ∷ p) h (suc k) = octet_at_lem p h.1 k

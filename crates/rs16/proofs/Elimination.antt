@@ -1,7 +1,7 @@
 -- The elimination's steps, for any bound t: rows of t + 1 coefficients, and windows of the syndromes.
 use Rattle.std.proofs.Common.{◌≡◌, ℕ, zero, suc, ◌+◌, ◌*◌, ◌<◌, ◌≤◌, List, [], ◌∷◌, length, get_or, set, replicate, sum, sym, refl, ap, ◌∙◌, subst, ap₂, inl, inr, suc-le-suc, zero-lt-suc, suc-ne-zero, arith}
 use native.Mathlib.Nat.{suc_inj}
-use Rattle.std.specs.List.{AllByRecursion as All}
+use Rattle.std.specs.List.{AllByRecursion}
 use Rattle.std.proofs.ByRecursion.{All-from_get_or, sum_by_le}
 use Rattle.std.proofs.lemmas.List.{get_or_past, get_or-replicate, get_or-set_same, get_or-set_other, length-set, length-replicate}
 use Rattle.std.proofs.lemmas.List.Sums.{sum_by-set}
@@ -137,11 +137,11 @@ module _ (t : ℕ) where
       omega arith
 
   -- ---- the answer
-  pub all_in : (r : List ℕ) → ((k : ℕ) → IsOctet (get_or r k 0)) → All IsOctet r
+  pub all_in : (r : List ℕ) → ((k : ℕ) → IsOctet (get_or r k 0)) → AllByRecursion IsOctet r
   all_in [] h = tt
   all_in (x ∷ r) h = (h 0, all_in r (λ k. h (suc k)))
 
-  pub all_zero_at : (r : List ℕ) (k : ℕ) → All (λ c. c ≡ 0) r → get_or r k 0 ≡ 0
+  pub all_zero_at : (r : List ℕ) (k : ℕ) → AllByRecursion (λ c. c ≡ 0) r → get_or r k 0 ≡ 0
   all_zero_at [] k h = refl
   all_zero_at (x ∷ r) zero h = h.0
   all_zero_at (x ∷ r) (suc k) h = all_zero_at r k h.1

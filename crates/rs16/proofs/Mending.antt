@@ -1,7 +1,7 @@
 -- The mending: where each altered octet's power passes a test, the evaluator polynomial gives what was altered.
 use Rattle.std.proofs.Common.{◌≡◌, ℕ, suc, ◌+◌, ◌<◌, ◌≤◌, Bool, true, cond, ◌⊎◌, List, [], ◌∷◌, length, get_or, drop, sym, refl, ap, ◌∙◌, subst, ap₂, inl, inr, suc-le-suc, le_trans, le_refl, zero-lt-suc, suc-ne-zero, arith}
 use native.Mathlib.Nat.{le-suc, suc_inj}
-use Rattle.std.specs.List.{AllByRecursion as All}
+use Rattle.std.specs.List.{AllByRecursion}
 use Rattle.std.proofs.lemmas.List.{length-drop}
 use Rattle.std.proofs.lemmas.Bool.{cond_both, both_ways, eq-eqb}
 use Rattle.octets.specs.Octets.{Octets, altered}
@@ -51,7 +51,7 @@ module _ (test : ℕ → Bool) where
         → eval (horner (locator k) (drop 1 q)) (locator j) ≡ 0
     quotient_zero [] e k j hk hj n tk tj = no_quotient (locator k) (locator j)
     quotient_zero (c ∷ q) e k j hk hj n tk tj =
-        other_root (locator k) c q (locator j) (locator_octet k) (locator_octet j) (subst (All IsOctet) e sep.octets).1
+        other_root (locator k) c q (locator j) (locator_octet k) (locator_octet j) (subst (AllByRecursion IsOctet) e sep.octets).1
         (λ same. n (locator_distinct j k hj hk same))
         (subst (λ r. eval r (locator k) ≡ 0) e (sep.root k hk tk)) (subst (λ r. eval r (locator j) ≡ 0) e (sep.root j hj tj))
 
@@ -116,7 +116,7 @@ module _ (test : ℕ → Bool) where
         (λ e. right_change (length a) x y o l e hx hy (h e ∙ head_sum x y a b l e f))
         (λ n. elim s [ inl e ↦ e | inr e ↦ absurd (both_ways (test (length a)) n e) ])
 
-    pub changed_is : (a b o : List ℕ) → length a ≡ length b → length a ≤ 255 → All IsOctet a → All IsOctet b → Found a b
+    pub changed_is : (a b o : List ℕ) → length a ≡ length b → length a ≤ 255 → AllByRecursion IsOctet a → AllByRecursion IsOctet b → Found a b
         → ((k : ℕ) → k < length a → test k ≡ true → eval o (locator k) ≡ weighed (gaps a b) (quotient k)) → changed test p o a ≡ b
     unfolding changed
     changed_is [] [] o e l ha hb f h = refl
@@ -137,7 +137,7 @@ module _ (test : ℕ → Bool) where
   unfolding change
   change_octet p o k = line_octet_octet (eval o (locator k) ⊗ inv (slope p (locator k) ⊗ pow (locator k) 112))
 
-  pub changed_octets : (p o a : List ℕ) → All IsOctet a → All IsOctet (changed test p o a)
+  pub changed_octets : (p o a : List ℕ) → AllByRecursion IsOctet a → AllByRecursion IsOctet (changed test p o a)
   unfolding changed
   changed_octets p o [] h = tt
   changed_octets p o (x ∷ a) h = (
@@ -156,13 +156,13 @@ changed_alike test other p o (x ∷ w) h =
 -- ---- the theorem
 
 -- a polynomial that is 0 at the locator of each altered octet finds them
-found_from : (q a b : List ℕ) → All (λ t. eval q t.0 ≡ 0) (alterations a b) → Found (root_at q) a b
+found_from : (q a b : List ℕ) → AllByRecursion (λ t. eval q t.0 ≡ 0) (alterations a b) → Found (root_at q) a b
 unfolding alterations
 found_from q [] b h = tt
 found_from q (x ∷ a) [] h = tt
 found_from q (x ∷ a) (y ∷ b) h =
     by_eq x y (alterations a b) (gap (length a) x y ∷ alterations a b)
-    (λ ts. All (λ t. eval q t.0 ≡ 0) ts → Found (root_at q) (x ∷ a) (y ∷ b))
+    (λ ts. AllByRecursion (λ t. eval q t.0 ≡ 0) ts → Found (root_at q) (x ∷ a) (y ∷ b))
     (λ e f. (inl e, found_from q a b f))
     (λ n f. (inr (eq-eqb (eval q (locator (length a))) 0 f.0), found_from q a b f.1)) h
 

@@ -1,6 +1,6 @@
 -- A polynomial divided by one of its linear factors: what the evaluator polynomial gives, and that a product's roots are simple.
 use Rattle.std.proofs.Common.{◌≡◌, ℕ, zero, suc, ◌+◌, ◌<◌, List, [], ◌∷◌, length, get_or, drop, sym, refl, ap, ◌∙◌, subst, ap₂, inl, inr, arith}
-use Rattle.std.specs.List.{AllByRecursion as All}
+use Rattle.std.specs.List.{AllByRecursion}
 use Rattle.std.proofs.lemmas.List.{get_or-drop}
 use Rattle.rs16.specs.Field.{◌⊕◌, ◌⊗◌, IsOctet}
 use Rattle.rs16.specs.Polynomials.{eval, apply, carry, mul_linear, from_roots, horner, slope}
@@ -72,33 +72,33 @@ unfolding mul_linear carry
 slope_mul z [] x = no_slope z x
 slope_mul z (d ∷ p) x = horner_carry x z d p x
 
-octets_carry : (x c : ℕ) (p : List ℕ) → IsOctet c → All IsOctet p → All IsOctet (carry x c p)
+octets_carry : (x c : ℕ) (p : List ℕ) → IsOctet c → AllByRecursion IsOctet p → AllByRecursion IsOctet (carry x c p)
 unfolding carry
 octets_carry x c [] hc hp = (hc, tt)
 octets_carry x c (d ∷ p) hc hp = (octet_add c (x ⊗ d) hc (octet_mul x d), octets_carry x d p hp.0 hp.1)
 
-pub octets_from_roots : (zs : List ℕ) → All IsOctet (from_roots zs)
+pub octets_from_roots : (zs : List ℕ) → AllByRecursion IsOctet (from_roots zs)
 unfolding from_roots mul_linear
 octets_from_roots [] = (octet_one, tt)
 octets_from_roots (z ∷ zs) = octets_carry z 0 (from_roots zs) octet_zero (octets_from_roots zs)
 
-all_drop_one : (p : List ℕ) → All IsOctet p → All IsOctet (drop 1 p)
+all_drop_one : (p : List ℕ) → AllByRecursion IsOctet p → AllByRecursion IsOctet (drop 1 p)
 all_drop_one [] h = tt
 all_drop_one (c ∷ p) h = h.1
 
-pub octet_slope : (p : List ℕ) (x : ℕ) → All IsOctet p → IsOctet (slope p x)
+pub octet_slope : (p : List ℕ) (x : ℕ) → AllByRecursion IsOctet p → IsOctet (slope p x)
 octet_slope p x h = octet_eval (horner x (drop 1 p)) x (octets_horner x (drop 1 p) (all_drop_one p h))
 
-not_this : (x z : ℕ) (zs : List ℕ) → All (λ y. ¬ (y ≡ z)) zs → Member x zs → ¬ (x ≡ z)
+not_this : (x z : ℕ) (zs : List ℕ) → AllByRecursion (λ y. ¬ (y ≡ z)) zs → Member x zs → ¬ (x ≡ z)
 not_this x z [] h m e = m
 not_this x z (y ∷ zs) h (inl s) e = h.0 (sym s ∙ e)
 not_this x z (y ∷ zs) h (inr m) e = not_this x z zs h.1 m e
 
-pub simple_root : (zs : List ℕ) (x : ℕ) → IsOctet x → All IsOctet zs → Distinct zs → Member x zs → ¬ (slope (from_roots zs) x ≡ 0)
+pub simple_root : (zs : List ℕ) (x : ℕ) → IsOctet x → AllByRecursion IsOctet zs → Distinct zs → Member x zs → ¬ (slope (from_roots zs) x ≡ 0)
 unfolding from_roots
 simple_root [] x hx hz d m e = m
 simple_root (z ∷ zs) x hx hz d (inl same) e =
-    off_roots zs x hx hz.1 (subst (λ v. All (λ y. ¬ (v ≡ y)) zs) (sym same) (apart z zs d.0))
+    off_roots zs x hx hz.1 (subst (λ v. AllByRecursion (λ y. ¬ (v ≡ y)) zs) (sym same) (apart z zs d.0))
     (sym (ap (λ v. v ⊗ slope (from_roots zs) x ⊕ eval (from_roots zs) x) (ap (λ v. v ⊕ z) same ∙ add_self z)
     ∙ ap (λ v. v ⊕ eval (from_roots zs) x) (zero-mul (slope (from_roots zs) x)))
     ∙ sym (slope_mul z (from_roots zs) x) ∙ e)

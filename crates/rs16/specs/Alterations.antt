@@ -2,7 +2,7 @@
 use Rattle.std.specs.Prelude.{◌≡◌, ℕ, suc, ◌+◌, ◌<◌, ◌≤◌, cond, List, [], ◌∷◌, length, ◌==◌, ◌≢◌, refl}
 use Rattle.std.proofs.Common.{ap, ap₂, sym, ◌∙◌, subst, inl, inr, le_refl, suc-ne-zero, arith}
 use Rattle.std.proofs.Math.Nat.{suc_inj}
-use Rattle.std.specs.List.{AllByRecursion as All}
+use Rattle.std.specs.List.{AllByRecursion}
 use Rattle.std.proofs.ByRecursion.{All-from_get_or, All-weaker}
 use Rattle.std.proofs.lemmas.Bool.{cond_both, cases_lt, eqb-true, eqb-false}
 use Rattle.octets.specs.Octets.{Octets, altered, differs}
@@ -79,17 +79,17 @@ alterations_length (x ∷ a) (y ∷ b) h =
 
 -- each is a locator of a power below n
 abbrev pub Under : ℕ → List ℕ → Type 0
-Under n xs = All (λ y. (k : ℕ) × (k < n) × (y ≡ locator k)) xs
+Under n xs = AllByRecursion (λ y. (k : ℕ) × (k < n) × (y ≡ locator k)) xs
 
 pub under_more : (n : ℕ) (xs : List ℕ) → Under n xs → Under (suc n) xs
 under_more n [] h = tt
 under_more n (x ∷ xs) h = ((h.0.0, omega arith, h.0.2), under_more n xs h.1)
 
-pub under_octets : (n : ℕ) (xs : List ℕ) → Under n xs → All IsOctet xs
+pub under_octets : (n : ℕ) (xs : List ℕ) → Under n xs → AllByRecursion IsOctet xs
 under_octets n [] h = tt
 under_octets n (x ∷ xs) h = (subst IsOctet (sym h.0.2) (locator_octet h.0.0), under_octets n xs h.1)
 
-pub under_apart : (n : ℕ) → n < 255 → (xs : List ℕ) → Under n xs → All (λ y. ¬ (y ≡ locator n)) xs
+pub under_apart : (n : ℕ) → n < 255 → (xs : List ℕ) → Under n xs → AllByRecursion (λ y. ¬ (y ≡ locator n)) xs
 under_apart n l [] h = tt
 under_apart n l (x ∷ xs) h =
     let k : ℕ = h.0.0 in
@@ -105,7 +105,7 @@ alterations_under (x ∷ a) (y ∷ b) =
     (λ e. under_more (length a) (places (alterations a b)) (alterations_under a b))
     (λ n. ((length a, le_refl (suc (length a)), refl), under_more (length a) (places (alterations a b)) (alterations_under a b)))
 
-pub alterations_octets : (a b : List ℕ) → All IsOctet (places (alterations a b))
+pub alterations_octets : (a b : List ℕ) → AllByRecursion IsOctet (places (alterations a b))
 alterations_octets a b = under_octets (length a) (places (alterations a b)) (alterations_under a b)
 
 pub alterations_distinct : (a b : List ℕ) → length a ≤ 255 → Distinct (places (alterations a b))
@@ -122,12 +122,12 @@ alterations_distinct (x ∷ a) (y ∷ b) l =
 abbrev pub Weighty : ℕ × ℕ → Type 0
 Weighty t = IsOctet t.1 × ¬ (t.1 ≡ 0)
 
-pub alterations_weighty : (a b : List ℕ) → All IsOctet a → All IsOctet b → All Weighty (alterations a b)
+pub alterations_weighty : (a b : List ℕ) → AllByRecursion IsOctet a → AllByRecursion IsOctet b → AllByRecursion Weighty (alterations a b)
 unfolding alterations
 alterations_weighty [] b ha hb = tt
 alterations_weighty (x ∷ a) [] ha hb = tt
 alterations_weighty (x ∷ a) (y ∷ b) ha hb =
-    by_eq x y (alterations a b) (gap (length a) x y ∷ alterations a b) (λ ts. All Weighty ts)
+    by_eq x y (alterations a b) (gap (length a) x y ∷ alterations a b) (λ ts. AllByRecursion Weighty ts)
     (λ e. alterations_weighty a b ha.1 hb.1)
     (λ n. (
       (
@@ -140,10 +140,10 @@ alterations_weighty (x ∷ a) (y ∷ b) ha hb =
 
 -- ---- distance
 
-pub all_octets : (n : ℕ) (xs : List ℕ) → Octets n xs → All IsOctet xs
+pub all_octets : (n : ℕ) (xs : List ℕ) → Octets n xs → AllByRecursion IsOctet xs
 all_octets n xs h = All-from_get_or IsOctet xs 0 (λ j l. h.octet j (omega (arith, h.size)))
 
-none_left : (ts : List (ℕ × ℕ)) → All Weighty ts → All (λ t. t.1 ≡ 0) ts → length ts ≡ 0
+none_left : (ts : List (ℕ × ℕ)) → AllByRecursion Weighty ts → AllByRecursion (λ t. t.1 ≡ 0) ts → length ts ≡ 0
 none_left [] h z = refl
 none_left (t ∷ ts) h z = absurd (h.0.1 z.0)
 
@@ -153,7 +153,7 @@ near_codewords a b ca cb h =
     let la : length a ≡ word_length = ca.octets.size in
     let lb : length b ≡ word_length = cb.octets.size in
     let ts : List (ℕ × ℕ) = alterations a b in
-    let ws : All Weighty (alterations a b) = alterations_weighty a b (all_octets word_length a ca.octets) (all_octets word_length b cb.octets) in
+    let ws : AllByRecursion Weighty (alterations a b) = alterations_weighty a b (all_octets word_length a ca.octets) (all_octets word_length b cb.octets) in
     let count : length (alterations a b) ≡ altered word_length a b = alterations_length a b (la ∙ sym lb) ∙ ap (λ n. altered n a b) la in
     equal_from_altered word_length a b la lb
     (sym count ∙ none_left (alterations a b) ws

@@ -2,7 +2,7 @@
 use Rattle.std.specs.Prelude.{◌≡◌, ℕ, ◌*◌, ◌/◌, ◌%◌, ◌^◌, ◌<◌, List, [], ◌∷◌, length, bit_xor, nat_eq, refl}
 use Rattle.std.proofs.Common.{ap, ap₂, sym, ◌∙◌, eqb→eq, lit<}
 use Rattle.std.proofs.lemmas.Nat.{xor_mod, xor_shr, xor_lt}
-use Rattle.std.specs.List.{AllByRecursion as All}
+use Rattle.std.specs.List.{AllByRecursion}
 use Rattle.rs16.specs.Field.{◌⊕◌, IsOctet}
 use Rattle.rs16.specs.DualBasis.{combine, line_basis, line_octet, element_basis, element}
 use Rattle.rs16.specs.Below.{all, below}
@@ -20,7 +20,7 @@ combine_add (b ∷ bs) a c =
     (combine_add bs a c)
     ∙ interchange (a / p % 2 * b) (c / p % 2 * b) (combine bs a) (combine bs c)
 
-combine_octet : (bs : List ℕ) (a : ℕ) → All IsOctet bs → IsOctet (combine bs a)
+combine_octet : (bs : List ℕ) (a : ℕ) → AllByRecursion IsOctet bs → IsOctet (combine bs a)
 unfolding combine
 combine_octet [] a h = lit< tt
 combine_octet (b ∷ bs) a h =

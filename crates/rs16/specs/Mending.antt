@@ -1,6 +1,6 @@
 -- Method: how a word is mended. Octets go by their power: octet j of a word has power 254 - j.
 use Rattle.std.specs.Prelude.{◌≡◌, ℕ, zero, suc, ◌+◌, ◌<◌, ◌≤◌, Bool, cond, List, [], ◌∷◌, length, get_or, ◌==◌, slice_index, slice_index_or, slice_set}
-use Rattle.std.specs.List.{AllByRecursion as All}
+use Rattle.std.specs.List.{AllByRecursion}
 use Rattle.octets.specs.Words.{word_length}
 use Rattle.rs16.specs.Field.{◌⊕◌, ◌⊗◌, IsOctet, pow, alpha, inv}
 use Rattle.rs16.specs.DualBasis.{line_octet}
@@ -19,8 +19,8 @@ Cleared s p h = (g : ℕ) → g < h → apply p (λ m. slice_index s (g + m)) �
 -- A polynomial other than 0, of degree t at most, that gives 0 on the first t windows.
 pub record Solution (t : ℕ) (p s : List ℕ) : Type 0 where
   pub size : length p ≡ t + 1
-  pub octets : All IsOctet p
-  pub other : ¬ (All (λ c. c ≡ 0) p)
+  pub octets : AllByRecursion IsOctet p
+  pub other : ¬ (AllByRecursion (λ c. c ≡ 0) p)
   pub solves : Cleared s p t
 
 -- A row of t + 1 coefficients whose last other than 0 is a 1 at place n.

@@ -5,7 +5,7 @@ use Rattle.std.proofs.Math.Path.{fun_ext}
 use Rattle.std.proofs.Math.Nat.{le-suc}
 use Rattle.std.specs.Int.Bits.{xor_assoc, xor_self}
 use Rattle.std.proofs.lemmas.Nat.{xor_comm, xor_lt}
-use Rattle.std.specs.List.{AllByRecursion as All}
+use Rattle.std.specs.List.{AllByRecursion}
 use Rattle.rs16.specs.Field.{◌⊕◌, ◌⊗◌, IsOctet, pow}
 use Rattle.rs16.specs.Polynomials.{eval, apply, carry, mul_linear, from_roots, horner}
 use Rattle.rs16.specs.Arithmetic.{mul_one as m1, mul_lt, mul_assoc as ma, mul_comm as mc, mul_add_right as md, no_divisors as divisors}
@@ -31,7 +31,7 @@ module _ {A : Type 0} where
   -- no two of the list are equal
   abbrev pub Distinct : List A → Type 0
   Distinct [] = Unit
-  Distinct (x ∷ xs) = All (λ y. ¬ (y ≡ x)) xs × Distinct xs
+  Distinct (x ∷ xs) = AllByRecursion (λ y. ¬ (y ≡ x)) xs × Distinct xs
 
 -- ---- the field's laws, under the names that `ring` sorts by
 
@@ -151,7 +151,7 @@ at_root (x ∷ xs) y (inr m) = eval_mul_linear x (from_roots xs) y ∙ rw (at_ro
 pub difference : (a b : ℕ) → a ⊕ b ≡ 0 → a ≡ b
 difference a b e = sym (add-zero a) ∙ ap (λ x. a ⊕ x) (sym (add_self b)) ∙ sym (add_assoc a b b) ∙ rw e (zero-add b)
 
-pub octet_eval : (p : List ℕ) (y : ℕ) → All IsOctet p → IsOctet (eval p y)
+pub octet_eval : (p : List ℕ) (y : ℕ) → AllByRecursion IsOctet p → IsOctet (eval p y)
 unfolding eval
 octet_eval [] y h = octet_zero
 octet_eval (c ∷ p) y h = octet_add c (y ⊗ eval p y) h.0 (octet_mul y (eval p y))
@@ -163,7 +163,7 @@ octet_roots [] y = octet_add 1 (y ⊗ 0) octet_one (octet_mul y 0)
 octet_roots (x ∷ xs) y =
     subst IsOctet (sym (eval_mul_linear x (from_roots xs) y)) (octet_mul (y ⊕ x) (eval (from_roots xs) y))
 
-pub off_roots : (xs : List ℕ) (y : ℕ) → IsOctet y → All IsOctet xs → All (λ x. ¬ (y ≡ x)) xs → ¬ (eval (from_roots xs) y ≡ 0)
+pub off_roots : (xs : List ℕ) (y : ℕ) → IsOctet y → AllByRecursion IsOctet xs → AllByRecursion (λ x. ¬ (y ≡ x)) xs → ¬ (eval (from_roots xs) y ≡ 0)
 unfolding from_roots eval
 off_roots [] y hy hx n e = one_not_zero (sym (add-zero 1) ∙ ap (λ z. 1 ⊕ z) (sym (mul-zero y)) ∙ e)
 off_roots (x ∷ xs) y hy hx n e =
@@ -184,20 +184,20 @@ divide x c p y =
     ap (λ z. c ⊕ z) (divide_more x p y) ∙ add_left_comm c ((y ⊕ x) ⊗ eval (horner x p) y) (x ⊗ eval p x)
 
 -- ---- few roots
-eval_zeros : (p : List ℕ) (y : ℕ) → All (λ c. c ≡ 0) p → eval p y ≡ 0
+eval_zeros : (p : List ℕ) (y : ℕ) → AllByRecursion (λ c. c ≡ 0) p → eval p y ≡ 0
 unfolding eval
 eval_zeros [] y h = refl
 eval_zeros (c ∷ p) y h = ap₂ (λ a b. a ⊕ y ⊗ b) h.0 (eval_zeros p y h.1) ∙ simp ring
 
-lowest : (x c : ℕ) (p : List ℕ) → All (λ c. c ≡ 0) p → eval (c ∷ p) x ≡ 0 → c ≡ 0
+lowest : (x c : ℕ) (p : List ℕ) → AllByRecursion (λ c. c ≡ 0) p → eval (c ∷ p) x ≡ 0 → c ≡ 0
 unfolding eval
 lowest x c p r e = sym (add-zero c) ∙ ap (λ z. c ⊕ z) (sym (mul-zero x) ∙ ap (λ z. x ⊗ z) (sym (eval_zeros p x r))) ∙ e
 
-horner_zeros : (x : ℕ) (p : List ℕ) → All (λ c. c ≡ 0) (horner x p) → All (λ c. c ≡ 0) p
+horner_zeros : (x : ℕ) (p : List ℕ) → AllByRecursion (λ c. c ≡ 0) (horner x p) → AllByRecursion (λ c. c ≡ 0) p
 unfolding horner
 horner_zeros x [] h = tt
 horner_zeros x (c ∷ p) h =
-    let rest : All (λ c. c ≡ 0) p = horner_zeros x p h.1 in
+    let rest : AllByRecursion (λ c. c ≡ 0) p = horner_zeros x p h.1 in
     (lowest x c p rest h.0, rest)
 
 length_horner : (x : ℕ) (p : List ℕ) → length (horner x p) ≡ length p
@@ -205,13 +205,13 @@ unfolding horner
 length_horner x [] = refl
 length_horner x (c ∷ p) = ap suc (length_horner x p)
 
-pub octets_horner : (x : ℕ) (p : List ℕ) → All IsOctet p → All IsOctet (horner x p)
+pub octets_horner : (x : ℕ) (p : List ℕ) → AllByRecursion IsOctet p → AllByRecursion IsOctet (horner x p)
 unfolding horner
 octets_horner x [] h = tt
 octets_horner x (c ∷ p) h = (octet_eval (c ∷ p) x h, octets_horner x p h.1)
 
 -- the other roots of p are roots of the quotient
-pub other_root : (r c : ℕ) (p : List ℕ) (s : ℕ) → IsOctet r → IsOctet s → All IsOctet p → ¬ (s ≡ r) → eval (c ∷ p) r ≡ 0 → eval (c ∷ p) s ≡ 0
+pub other_root : (r c : ℕ) (p : List ℕ) (s : ℕ) → IsOctet r → IsOctet s → AllByRecursion IsOctet p → ¬ (s ≡ r) → eval (c ∷ p) r ≡ 0 → eval (c ∷ p) s ≡ 0
     → eval (horner r p) s ≡ 0
 other_root r c p s hr hs hp n er es =
     no_divisors (s ⊕ r) (eval (horner r p) s) (octet_add s r hs hr) (octet_eval (horner r p) s (octets_horner r p hp))
@@ -219,22 +219,22 @@ other_root r c p s hr hs hp n er es =
     (sym (add-zero ((s ⊕ r) ⊗ eval (horner r p) s)) ∙ ap (λ z. (s ⊕ r) ⊗ eval (horner r p) s ⊕ z) (sym er)
     ∙ sym (divide r c p s) ∙ es)
 
-other_roots : (r c : ℕ) (p : List ℕ) (rs : List ℕ) → IsOctet r → All IsOctet rs → All IsOctet p → All (λ s. ¬ (s ≡ r)) rs → eval (c ∷ p) r ≡ 0
-    → All (λ s. eval (c ∷ p) s ≡ 0) rs → All (λ s. eval (horner r p) s ≡ 0) rs
+other_roots : (r c : ℕ) (p : List ℕ) (rs : List ℕ) → IsOctet r → AllByRecursion IsOctet rs → AllByRecursion IsOctet p → AllByRecursion (λ s. ¬ (s ≡ r)) rs → eval (c ∷ p) r ≡ 0
+    → AllByRecursion (λ s. eval (c ∷ p) s ≡ 0) rs → AllByRecursion (λ s. eval (horner r p) s ≡ 0) rs
 other_roots r c p [] hr hs hp n er es = tt
 other_roots r c p (s ∷ rs) hr hs hp n er es =
     (other_root r c p s hr hs.0 hp n.0 er es.0, other_roots r c p rs hr hs.1 hp n.1 er es.1)
 
 -- ℕ polynomial with as many distinct roots as coefficients is zero.
-pub few_roots : (rs p : List ℕ) → All IsOctet rs → All IsOctet p → Distinct rs → All (λ r. eval p r ≡ 0) rs → length p ≤ length rs → All (λ c. c ≡ 0) p
+pub few_roots : (rs p : List ℕ) → AllByRecursion IsOctet rs → AllByRecursion IsOctet p → Distinct rs → AllByRecursion (λ r. eval p r ≡ 0) rs → length p ≤ length rs → AllByRecursion (λ c. c ≡ 0) p
 few_roots rs [] hr hp d e l = tt
 few_roots [] (c ∷ p) hr hp d e l = absurd (not-suc-le-zero l)
 few_roots (r ∷ rs) (c ∷ p) hr hp d e l =
-    let q : All (λ c. c ≡ 0) (horner r p) =
+    let q : AllByRecursion (λ c. c ≡ 0) (horner r p) =
     few_roots rs (horner r p) hr.1 (octets_horner r p hp.1) d.1
     (other_roots r c p rs hr.0 hr.1 hp.1 d.0 e.0 e.1)
     (subst (λ n. n ≤ length rs) (sym (length_horner r p)) (le_of_suc-le-suc l)) in
-    let rest : All (λ c. c ≡ 0) p = horner_zeros r p q in
+    let rest : AllByRecursion (λ c. c ≡ 0) p = horner_zeros r p q in
     (lowest r c p rest e.0, rest)
 
 -- ---- Vandermonde: distinct places with zero power sums have zero weights
@@ -259,17 +259,17 @@ length_roots [] = refl
 length_roots (x ∷ xs) = length_carry x 0 (from_roots xs) ∙ ap suc (length_roots xs)
 
 -- p vanishes at each place of ts
-pub weighed_zero : (ts : List (ℕ × ℕ)) (p : List ℕ) → All (λ x. eval p x ≡ 0) (places ts) → weighed ts p ≡ 0
+pub weighed_zero : (ts : List (ℕ × ℕ)) (p : List ℕ) → AllByRecursion (λ x. eval p x ≡ 0) (places ts) → weighed ts p ≡ 0
 unfolding weighed
 weighed_zero [] p h = refl
 weighed_zero (t ∷ ts) p h = ap₂ (λ a b. t.1 ⊗ a ⊕ b) h.0 (weighed_zero ts p h.1) ∙ simp ring
 
-pub all_roots : (xs ys : List ℕ) → ((y : ℕ) → Member y xs → Member y ys) → All (λ x. eval (from_roots ys) x ≡ 0) xs
+pub all_roots : (xs ys : List ℕ) → ((y : ℕ) → Member y xs → Member y ys) → AllByRecursion (λ x. eval (from_roots ys) x ≡ 0) xs
 all_roots [] ys s = tt
 all_roots (x ∷ xs) ys s = (at_root ys x (s x (inl refl)), all_roots xs ys (λ y m. s y (inr m)))
 
 -- the weight of the first place is 0
-first_weight : (t : ℕ × ℕ) (ts : List (ℕ × ℕ)) → IsOctet t.0 → IsOctet t.1 → All IsOctet (places ts) → All (λ x. ¬ (t.0 ≡ x)) (places ts)
+first_weight : (t : ℕ × ℕ) (ts : List (ℕ × ℕ)) → IsOctet t.0 → IsOctet t.1 → AllByRecursion IsOctet (places ts) → AllByRecursion (λ x. ¬ (t.0 ≡ x)) (places ts)
     → weighed (t ∷ ts) (from_roots (places ts)) ≡ 0 → t.1 ≡ 0
 unfolding weighed
 first_weight t ts hx he hs n w =
@@ -284,7 +284,7 @@ pub length_places : (ts : List (ℕ × ℕ)) → length (places ts) ≡ length t
 length_places [] = refl
 length_places (t ∷ ts) = ap suc (length_places ts)
 
-pub apart : (x : ℕ) (xs : List ℕ) → All (λ y. ¬ (y ≡ x)) xs → All (λ y. ¬ (x ≡ y)) xs
+pub apart : (x : ℕ) (xs : List ℕ) → AllByRecursion (λ y. ¬ (y ≡ x)) xs → AllByRecursion (λ y. ¬ (x ≡ y)) xs
 apart x [] h = tt
 apart x (y ∷ xs) h = ((λ e. h.0 (sym e)), apart x xs h.1)
 
@@ -293,8 +293,8 @@ unfolding power_sum
 drop_first t ts m e h =
     sym (zero-add (power_sum ts m)) ∙ ap (λ z. z ⊕ power_sum ts m) (sym (zero-mul (pow t.0 m)) ∙ ap (λ z. z ⊗ pow t.0 m) (sym e)) ∙ h
 
-pub vandermonde : (ts : List (ℕ × ℕ)) → All (λ t. IsOctet t.1) ts → All IsOctet (places ts) → Distinct (places ts)
-    → ((m : ℕ) → m < length ts → power_sum ts m ≡ 0) → All (λ t. t.1 ≡ 0) ts
+pub vandermonde : (ts : List (ℕ × ℕ)) → AllByRecursion (λ t. IsOctet t.1) ts → AllByRecursion IsOctet (places ts) → Distinct (places ts)
+    → ((m : ℕ) → m < length ts → power_sum ts m ≡ 0) → AllByRecursion (λ t. t.1 ≡ 0) ts
 vandermonde [] he hx d s = tt
 vandermonde (t ∷ ts) he hx d s =
     let size : length (from_roots (places ts)) ≡ suc (length ts) = length_roots (places ts) ∙ ap suc (length_places ts) in
@@ -347,21 +347,21 @@ length_through : (p : List ℕ) (ts : List (ℕ × ℕ)) → length (through p t
 length_through p [] = refl
 length_through p (t ∷ ts) = ap suc (length_through p ts)
 
-octets_through : (p : List ℕ) (ts : List (ℕ × ℕ)) → All (λ t. IsOctet t.1) (through p ts)
+octets_through : (p : List ℕ) (ts : List (ℕ × ℕ)) → AllByRecursion (λ t. IsOctet t.1) (through p ts)
 octets_through p [] = tt
 octets_through p (t ∷ ts) = (octet_mul t.1 (eval p t.0), octets_through p ts)
 
-cancelled : (p : List ℕ) (ts : List (ℕ × ℕ)) → All IsOctet p → All (λ t. IsOctet t.1 × ¬ (t.1 ≡ 0)) ts
-    → All (λ t. t.1 ≡ 0) (through p ts) → All (λ t. eval p t.0 ≡ 0) ts
+cancelled : (p : List ℕ) (ts : List (ℕ × ℕ)) → AllByRecursion IsOctet p → AllByRecursion (λ t. IsOctet t.1 × ¬ (t.1 ≡ 0)) ts
+    → AllByRecursion (λ t. t.1 ≡ 0) (through p ts) → AllByRecursion (λ t. eval p t.0 ≡ 0) ts
 cancelled p [] hp he z = tt
 cancelled p (t ∷ ts) hp he z =
     (no_divisors t.1 (eval p t.0) he.0.0 (octet_eval p t.0 hp) he.0.1 z.0, cancelled p ts hp he.1 z.1)
 
 -- ℕ polynomial that gives 0 on as many windows of the sequence as there are places vanishes at each place.
-pub locates : (p : List ℕ) (ts : List (ℕ × ℕ)) → All IsOctet p → All (λ t. IsOctet t.1 × ¬ (t.1 ≡ 0)) ts → All IsOctet (places ts) → Distinct (places ts)
-    → ((i : ℕ) → i < length ts → apply p (λ m. power_sum ts (i + m)) ≡ 0) → All (λ t. eval p t.0 ≡ 0) ts
+pub locates : (p : List ℕ) (ts : List (ℕ × ℕ)) → AllByRecursion IsOctet p → AllByRecursion (λ t. IsOctet t.1 × ¬ (t.1 ≡ 0)) ts → AllByRecursion IsOctet (places ts) → Distinct (places ts)
+    → ((i : ℕ) → i < length ts → apply p (λ m. power_sum ts (i + m)) ≡ 0) → AllByRecursion (λ t. eval p t.0 ≡ 0) ts
 locates p ts hp he hx d s =
     cancelled p ts hp he
     (vandermonde (through p ts) (octets_through p ts)
-    (subst (All IsOctet) (sym (places_through p ts)) hx) (subst Distinct (sym (places_through p ts)) d)
+    (subst (AllByRecursion IsOctet) (sym (places_through p ts)) hx) (subst Distinct (sym (places_through p ts)) d)
     (λ i l. sym (apply_shifted p ts i) ∙ s i (subst (λ n. i < n) (length_through p ts) l)))

@@ -3,7 +3,7 @@ use Rattle.std.specs.Prelude.{◌≡◌, ℕ, zero, suc, ◌+◌, ◌-◌, ◌*�
 use Rattle.std.proofs.Common.{ap, sym, ◌∙◌, suc-ne-zero, arith, eqb→eq, lit<, length-append}
 use Rattle.std.proofs.Math.Path.{ap₂}
 use Rattle.std.proofs.Math.Nat.{suc_inj}
-use Rattle.std.specs.List.{AllByRecursion as All}
+use Rattle.std.specs.List.{AllByRecursion}
 use Rattle.std.proofs.ByRecursion.{All-get_or, All-append, All-drop}
 use Rattle.std.proofs.lemmas.List.{get_or-take, take_at}
 use Rattle.octets.specs.Octets.{Octets}
@@ -49,7 +49,7 @@ nested a (c ∷ g) x = nested (a ⊗ x ⊕ c) g x
 step_nested : (a c x p w : ℕ) → (a ⊗ x ⊕ c) ⊗ p ⊕ w ≡ a ⊗ (x ⊗ p) ⊕ (c ⊗ p ⊕ w)
 step_nested a c x p w = simp ring
 
-nested_worth : (a : ℕ) (g : List ℕ) (x : ℕ) → IsOctet a → All IsOctet g → nested a g x ≡ a ⊗ pow x (length g) ⊕ worth g x
+nested_worth : (a : ℕ) (g : List ℕ) (x : ℕ) → IsOctet a → AllByRecursion IsOctet g → nested a g x ≡ a ⊗ pow x (length g) ⊕ worth g x
 unfolding nested worth pow
 nested_worth a [] x ha hg = sym (mul_one a ha) ∙ sym (add-zero (a ⊗ 1))
 nested_worth a (c ∷ g) x ha hg =
@@ -64,7 +64,7 @@ pub generator_length : length generator ≡ 32
 unfolding generator
 generator_length = refl
 
-generator_octets : All IsOctet generator
+generator_octets : AllByRecursion IsOctet generator
 unfolding generator
 generator_octets = (lit< tt, (lit< tt, (lit< tt, (lit< tt, (lit< tt, (lit< tt, (lit< tt, (lit< tt, (lit< tt, (lit< tt, (lit< tt, (lit< tt, (lit< tt, (lit< tt, (lit< tt, (lit< tt, (lit< tt, (lit< tt, (lit< tt, (lit< tt, (lit< tt, (lit< tt, (lit< tt, (lit< tt, (lit< tt, (lit< tt, (lit< tt, (lit< tt, (lit< tt, (lit< tt, (lit< tt, (lit< tt, tt))))))))))))))))))))))))))))))))
 
@@ -150,24 +150,24 @@ unfolding remainder
 remainder_length r [] l = l
 remainder_length r (o ∷ w) l = remainder_length (divide_step o r) w (divide_step_length o r)
 
-plus_multiple_octets : (f : ℕ) (g r : List ℕ) → All IsOctet r → All IsOctet (plus_multiple f g r)
+plus_multiple_octets : (f : ℕ) (g r : List ℕ) → AllByRecursion IsOctet r → AllByRecursion IsOctet (plus_multiple f g r)
 unfolding plus_multiple
 plus_multiple_octets f [] r h = tt
 plus_multiple_octets f (c ∷ g) r h =
     (octet_add (slice_index r 0) (multiple f c) (at r 0 h) (line_octet_octet (element f ⊗ c)), plus_multiple_octets f g (drop 1 r) (All-drop IsOctet 1 r h))
   where
-    at : (r : List ℕ) (k : ℕ) → All IsOctet r → IsOctet (slice_index r k)
+    at : (r : List ℕ) (k : ℕ) → AllByRecursion IsOctet r → IsOctet (slice_index r k)
     at [] k h = octet_zero
     at (x ∷ r) zero h = h.0
     at (x ∷ r) (suc k) h = at r k h.1
 
-remainder_octets : (r w : List ℕ) → All IsOctet r → All IsOctet (remainder r w)
+remainder_octets : (r w : List ℕ) → AllByRecursion IsOctet r → AllByRecursion IsOctet (remainder r w)
 unfolding remainder divide_step
 remainder_octets r [] h = h
 remainder_octets r (o ∷ w) h =
     remainder_octets (divide_step o r) w (plus_multiple_octets (slice_index_or r 0 0 ⊕ o) generator (drop 1 r) (All-drop IsOctet 1 r h))
 
-zeros_octets : (n : ℕ) → All IsOctet (replicate n 0)
+zeros_octets : (n : ℕ) → AllByRecursion IsOctet (replicate n 0)
 zeros_octets zero = tt
 zeros_octets (suc n) = (octet_zero, zeros_octets n)
 
@@ -189,7 +189,7 @@ pub checks_length : (h : List ℕ) → length (checks h) ≡ 32
 unfolding checks
 checks_length h = remainder_length (replicate 32 0) h refl
 
-pub checks_octets : (h : List ℕ) → All IsOctet (checks h)
+pub checks_octets : (h : List ℕ) → AllByRecursion IsOctet (checks h)
 unfolding checks
 checks_octets h = remainder_octets (replicate 32 0) h (zeros_octets 32)
 

@@ -40,7 +40,7 @@ fn markers_of_reports(rt: HostRuntime) {
             count: 3,
         },
     ];
-    assert!(rt; list.records() == &worst);
+    assert!(rt; list.records() == worst.as_slice());
 }
 
 #[test]
@@ -54,5 +54,5 @@ fn rows_of_answers(rt: HostRuntime) {
         RowRecord { octets: 16, row: 1 },
         RowRecord { octets: 2, row: 3 },
     ];
-    assert!(rt; list.records() == &worst);
+    assert!(rt; list.records() == worst.as_slice());
 }

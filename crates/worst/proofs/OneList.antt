@@ -1,7 +1,7 @@
 -- Under a total order the worst list of given records is one.
 use Rattle.std.proofs.Common.{◌≡◌, ℕ, zero, suc, ◌≤◌, ◌⊎◌, List, [], ◌∷◌, length, Ordering, Less, Equal, Greater, sym, refl, ap, ◌∙◌, inl, inr, ⊎_elim, arith}
 use Rattle.std.proofs.ByRecursion.{All-weaker, all-has}
-use Rattle.std.specs.List.{ContainsAt as Has, AllByRecursion as All}
+use Rattle.std.specs.List.{ContainsAt, AllByRecursion}
 use Rattle.std.specs.Cmp.{IsTotalOrder}
 use Rattle.worst.specs.Order.{TotalOrder}
 use Rattle.worst.specs.Worst.{Descending, Holds, Outdone, WorstOf, Alike, OneWorst}
@@ -41,12 +41,12 @@ module _ {X : Type 0} (cmp : X → X → Ordering) (t : TotalOrder cmp) where
       ⊎_elim (λ e. let q : cmp x z ≡ Less = above_turned as_total z x p in let w : ◌≡◌ {A = ℕ} 0 1 = cc in absurd (omega arith)) (λ i. inl i) h)
       (λ out. inr (omega (arith, out.0), out.1.1)) k
 
-  all_known : (n : ℕ) (z : X) (zs ys : List X) → All (λ x. cmp z x ≡ Greater) ys → All (Known (suc n) (z ∷ zs)) ys → All (Known n zs) ys
+  all_known : (n : ℕ) (z : X) (zs ys : List X) → AllByRecursion (λ x. cmp z x ≡ Greater) ys → AllByRecursion (Known (suc n) (z ∷ zs)) ys → AllByRecursion (Known n zs) ys
   all_known n z zs [] b k = tt
   all_known n z zs (y ∷ ys) b k = (known_rest n z y zs b.0 k.0, all_known n z zs ys b.1 k.1)
 
   pub same_by_known : (n : ℕ) (ys zs : List X) → length ys ≤ n → length zs ≤ n → Descending cmp ys → Descending cmp zs
-      → All (Known n zs) ys → All (Known n ys) zs → ys ≡ zs
+      → AllByRecursion (Known n zs) ys → AllByRecursion (Known n ys) zs → ys ≡ zs
   same_by_known n [] [] ly lz dy dz ky kz = refl
   same_by_known n [] (z ∷ zs) ly lz dy dz ky kz = ⊎_elim (λ h. absurd h) (λ out. absurd (omega (arith, out.0))) kz.0
   same_by_known n (y ∷ ys) [] ly lz dy dz ky kz = ⊎_elim (λ h. absurd h) (λ out. absurd (omega (arith, out.0))) ky.0
@@ -56,8 +56,8 @@ module _ {X : Type 0} (cmp : X → X → Ordering) (t : TotalOrder cmp) where
         | Less ↦ λ p. absurd (not_above (suc n) z y ys dy kz.0 (below_turned as_total y z p))
         | Equal ↦ λ p.
             let e : y ≡ z = t.same y z p in
-            let zs-below : All (λ x. cmp y x ≡ Greater) zs = rw e dz.0 in
-            let ys-below : All (λ x. cmp z x ≡ Greater) ys = rw (← e) dy.0 in
+            let zs-below : AllByRecursion (λ x. cmp y x ≡ Greater) zs = rw e dz.0 in
+            let ys-below : AllByRecursion (λ x. cmp z x ≡ Greater) ys = rw (← e) dy.0 in
             let rest : ys ≡ zs =
             same_by_known n ys zs (omega arith) (omega arith) dy.1 dz.1 (all_known n z zs ys ys-below ky.1) (all_known n y ys zs zs-below kz.1)
             in
@@ -68,5 +68,5 @@ module _ {X : Type 0} (cmp : X → X → Ordering) (t : TotalOrder cmp) where
   pub one_worst : OneWorst cmp
   one_worst n xs xs' ys zs alike g h =
       same_by_known n ys zs g.within h.within g.descending h.descending
-      (All-weaker (Has xs) (Known n zs) (λ y i. all-has (Known n zs) xs' y h.missing (all-has (Has xs') xs y alike.0 i)) ys g.among)
-      (All-weaker (Has xs') (Known n ys) (λ z i. all-has (Known n ys) xs z g.missing (all-has (Has xs) xs' z alike.1 i)) zs h.among)
+      (All-weaker (ContainsAt xs) (Known n zs) (λ y i. all-has (Known n zs) xs' y h.missing (all-has (ContainsAt xs') xs y alike.0 i)) ys g.among)
+      (All-weaker (ContainsAt xs') (Known n ys) (λ z i. all-has (Known n ys) xs z g.missing (all-has (ContainsAt xs) xs' z alike.1 i)) zs h.among)

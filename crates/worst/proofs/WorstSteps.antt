@@ -2,7 +2,7 @@
 use Rattle.std.proofs.Common.{◌≡◌, ℕ, zero, suc, ◌≤◌, min, ◌⊎◌, List, [], ◌∷◌, ◌++◌, length, take, Ordering, Less, Equal, Greater, sym, refl, ap, ◌∙◌, inl, inr, ⊎_elim, arith}
 use Rattle.std.proofs.lemmas.List.{length-take}
 use Rattle.std.proofs.ByRecursion.{All-weaker, All-take, has_append_left, has_append_right, has_push}
-use Rattle.std.specs.List.{ContainsAt as Has, AllByRecursion as All}
+use Rattle.std.specs.List.{ContainsAt, AllByRecursion}
 use Rattle.std.specs.Cmp.{IsTotalOrder}
 use Rattle.std.specs.Ordering.{ordering_reverse}
 use Rattle.worst.specs.Noted.{placed, noted}
@@ -29,10 +29,10 @@ module _ {X : Type 0} {R : X → X → Ordering} (o : IsTotalOrder R) where
   above_equal : (y z w : X) → R y z ≡ Greater → R w z ≡ Equal → R y w ≡ Greater
   above_equal y z w p e = below_turned w y (o.congr w z y e ∙ above_turned y z p)
 
-  pub all_placed : (P : X → Type 0) (x : X) (ys : List X) → P x → All P ys → All P (placed R x ys)
+  pub all_placed : (P : X → Type 0) (x : X) (ys : List X) → P x → AllByRecursion P ys → AllByRecursion P (placed R x ys)
   all_placed P x [] p a = (p, tt)
   all_placed P x (y ∷ ys) p a =
-      elim (R x y) as (λ q. All P (placed_by R x y ys q))
+      elim (R x y) as (λ q. AllByRecursion P (placed_by R x y ys q))
       [ Less ↦ (a.0, all_placed P x ys p a.1) | Equal ↦ a | Greater ↦ (p, a) ]
 
   pub placed_descends : (x : X) (ys : List X) → Descending R ys → Descending R (placed R x ys)
@@ -61,7 +61,7 @@ module _ {X : Type 0} {R : X → X → Ordering} (o : IsTotalOrder R) where
       elim (R x y) as (λ q. Holds R (placed_by R x y ys q) w)
       [ Less ↦ ⊎_elim (λ e. inl e) (λ k. inr (placed_keeps x w ys k)) h | Equal ↦ h | Greater ↦ inr h ]
 
-  pub above_held : (y w : X) (ys : List X) → All (λ z. R y z ≡ Greater) ys → Holds R ys w → R y w ≡ Greater
+  pub above_held : (y w : X) (ys : List X) → AllByRecursion (λ z. R y z ≡ Greater) ys → Holds R ys w → R y w ≡ Greater
   above_held y w [] a h = absurd h
   above_held y w (z ∷ ys) a h = ⊎_elim (λ e. above_equal y z w a.0 e) (λ k. above_held y w ys a.1 k) h
 
@@ -94,9 +94,9 @@ module _ {X : Type 0} {R : X → X → Ordering} (o : IsTotalOrder R) where
         within = simp length-take (omega arith);
         descending = take_descends n (placed R x ys) d;
         among =
-            All-take (Has (x ∷ xs)) n (placed R x ys)
-            (all_placed (Has (x ∷ xs)) x ys (has_append_left (x ∷ []) xs x (has_push [] x))
-            (All-weaker (Has xs) (Has (x ∷ xs)) (λ z h. has_append_right (x ∷ []) xs z h) ys g.among));
+            All-take (ContainsAt (x ∷ xs)) n (placed R x ys)
+            (all_placed (ContainsAt (x ∷ xs)) x ys (has_append_left (x ∷ []) xs x (has_push [] x))
+            (All-weaker (ContainsAt xs) (ContainsAt (x ∷ xs)) (λ z h. has_append_right (x ∷ []) xs z h) ys g.among));
         missing = (
           take_holds x n (placed R x ys) d (placed_holds x ys),
           All-weaker (λ w. Holds R ys w ⊎ Outdone R n ys w)
