@@ -1,4 +1,5 @@
-// The calls that a program in C or Rust can link, for comparisons and measurements: rs16 on a word of a row.
+// Calls with plain numbers for answers, for programs in C or Rust, for comparisons and measurements: rs16 on a word of a row. `exports_c`
+// makes symbols of them.
 #![tactic(auto)]
 
 ghost use Rattle.exports.specs.Numbers.{EncodesByNumber, MendsByNumber};
@@ -6,8 +7,7 @@ ghost use Rattle.exports.specs.Numbers.{EncodesByNumber, MendsByNumber};
 use rs16::{encode_rs16, mend_rs16};
 
 // Encodes a word of the row; 0, or the number of the refusal: 1 or 8.
-#[unsafe(no_mangle)]
-pub extern "C" fn rs16_encode_word(row: &mut [u8], depth: usize, word: usize) -> usize
+pub fn rs16_encode_word(row: &mut [u8], depth: usize, word: usize) -> usize
     ensures { EncodesByNumber depth word row.old result row.new }
 {
     match encode_rs16(row, depth, word) {
@@ -17,8 +17,7 @@ pub extern "C" fn rs16_encode_word(row: &mut [u8], depth: usize, word: usize) ->
 }
 
 // Mends a word of the row; how many octets it altered, or 100 and the number of the refusal: 101, 108 or 109.
-#[unsafe(no_mangle)]
-pub extern "C" fn rs16_mend_word(row: &mut [u8], depth: usize, word: usize) -> usize
+pub fn rs16_mend_word(row: &mut [u8], depth: usize, word: usize) -> usize
     ensures { MendsByNumber depth word row.old result row.new }
 {
     match mend_rs16(row, depth, word) {
