@@ -1,5 +1,5 @@
 -- Feeding octet after octet: the loop of feed turn by turn, and that any chunking leads to the same end.
-use Rattle.std.proofs.Common.{◌≡◌, ℕ, zero, suc, ◌+◌, ◌<◌, ◌≤◌, Bool, true, false, List, [], ◌∷◌, ◌++◌, length, get_or, take, drop, is_some, Some, None, Option, sym, refl, ap, ◌∙◌, ap₂, add-one, arith}
+use Rattle.std.proofs.Common.{◌≡◌, ℕ, suc, ◌+◌, ◌<◌, ◌≤◌, Bool, true, false, List, [], ◌∷◌, ◌++◌, length, get_or, take, drop, is_some, Some, None, Option, sym, refl, ap, ◌∙◌, ap₂, arith}
 use Rattle.std.proofs.lemmas.List.{drop_more, drop_all}
 use Rattle.settings.specs.declared.Settings.{Settings}
 use Rattle.mapping.specs.Meaning.{MappingMeaning}
@@ -7,7 +7,7 @@ use Rattle.link.specs.declared.receiving.Mode.{Mode}
 use Rattle.link.specs.declared.report.Report.{Report}
 use Rattle.link.specs.Rules.{mode_after, report_of, memory_after, block_ends, is_fresh}
 use Rattle.link.specs.Hearing.{Heard}
-use Rattle.link.specs.Feeding.{Fed, fed_all, stop_or, fed_from, fed, Passed, behind, passed, fed_each, taken_each, AnyChunking}
+use Rattle.link.specs.Feeding.{Fed, fed_all, stop_or, fed_from, fed, behind, passed, fed_each, taken_each, AnyChunking}
 
 -- ---- where a feed stops
 

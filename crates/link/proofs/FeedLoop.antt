@@ -1,5 +1,5 @@
 -- The loop of feed: what holds before each octet, and how each turn ends.
-use Rattle.std.proofs.Common.{◌≡◌, ℕ, ◌+◌, ◌<◌, ◌≤◌, Bool, true, false, List, length, get_or, drop, is_some, None, Option, sym, refl, ap, ◌∙◌, subst}
+use Rattle.std.proofs.Common.{◌≡◌, ℕ, ◌+◌, ◌<◌, ◌≤◌, Bool, true, false, List, length, get_or, drop, is_some, None, Option, sym, ap, ◌∙◌, subst}
 use Rattle.settings.specs.declared.Settings.{Settings}
 use Rattle.mapping.specs.Meaning.{MappingMeaning}
 use Rattle.link.specs.declared.receiving.Mode.{Mode}

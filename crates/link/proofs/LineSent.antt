@@ -1,5 +1,5 @@
 -- The line sent is a beginning of the line of the frames put.
-use Rattle.std.proofs.Common.{◌≡◌, ℕ, suc, ◌+◌, ◌-◌, ◌*◌, ◌<◌, ◌≤◌, min, true, false, ltb, ◌⊎◌, List, [], ◌∷◌, ◌++◌, length, get_or, take, drop, Ok, Err, Result, sym, refl, ap, ◌∙◌, subst, inl, inr, ⊎_elim, append_assoc, append-nil, zero-mul, arith, length-append, length-drop, take-append-drop, length-take, take-add}
+use Rattle.std.proofs.Common.{◌≡◌, ℕ, suc, ◌+◌, ◌*◌, ◌<◌, ◌≤◌, true, false, ltb, ◌⊎◌, List, [], ◌∷◌, ◌++◌, length, get_or, take, drop, Ok, Err, Result, sym, refl, ap, ◌∙◌, subst, inl, inr, ⊎_elim, append_assoc, append-nil, zero-mul, arith, length-append, length-drop, take-append-drop, length-take, take-add}
 use Rattle.std.proofs.lemmas.Nat.{mul-add-lt, mul-le}
 use Rattle.std.proofs.lemmas.List.{get_or_append_left, get_or_push, length_push, length-take-le, take_at, take_all}
 use Rattle.std.proofs.lemmas.Bool.{lt-ltb, le-ltb, cases_lt}
@@ -8,8 +8,8 @@ use Rattle.settings.specs.Lengths.{row_length, block_length}
 use Rattle.code.specs.Meaning.{CodeMeaning}
 use Rattle.mapping.specs.Meaning.{MappingMeaning}
 use Rattle.link.specs.Frames.{EncodedFrame, with_row}
-use Rattle.link.specs.Line.{joined, line_length, block_line, block_memory, line_of_rows, EncodedFrames, BeginsLine}
-use Rattle.link.specs.SenderSteps.{sender_made, drawn_on, PutStep, DrawStep}
+use Rattle.link.specs.Line.{joined, line_length, block_line, block_memory, line_of_rows, EncodedFrames}
+use Rattle.link.specs.SenderSteps.{drawn_on, PutStep, DrawStep}
 use Rattle.link.specs.SenderHistory.{SenderCall, put, draw, SenderHistory, made, put_next, draw_next, frames_put, line_sent}
 use Rattle.link.specs.SenderLaws.{SendsLine}
 use Rattle.link.specs.declared.fault.PutFault.{PutFault}

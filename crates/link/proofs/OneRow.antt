@@ -1,12 +1,11 @@
 -- A frame is encoded as just one row.
-use Rattle.std.proofs.Common.{◌≡◌, ℕ, ◌<◌, ◌≤◌, List, length, get_or, take, sym, refl, ap, ◌∙◌, subst, arith}
+use Rattle.std.proofs.Common.{◌≡◌, ℕ, ◌<◌, List, length, get_or, take, sym, refl, ap, ◌∙◌, subst, arith}
 use Rattle.std.proofs.lemmas.List.{ext_get_or, get_or-take, length-take-le}
-use Rattle.octets.specs.Octets.{Octets}
 use Rattle.octets.specs.Words.{word_length, word_place, word_of}
 use Rattle.octets.proofs.Octets.{octets_take}
 use Rattle.octets.proofs.Words.{place_below, word_at, word_size, row_from_words}
 use Rattle.code.specs.Meaning.{CodeMeaning, CodeLaws}
-use Rattle.link.specs.Frames.{frame_length, EncodedFrame, OneRow}
+use Rattle.link.specs.Frames.{frame_length, OneRow}
 
 module _ (depth : ℕ) (code : CodeMeaning) (laws : CodeLaws code) where
   module _ (w : ℕ) (low : w < depth) where

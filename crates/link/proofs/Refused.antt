@@ -1,5 +1,5 @@
 -- Every call of a sender's history is refused just where the table says.
-use Rattle.std.proofs.Common.{◌≡◌, ℕ, ◌+◌, ◌-◌, ◌*◌, ◌/◌, ◌<◌, ◌≤◌, true, List, length, take, Some, None, Ok, Err, Result, sym, refl, ap, ◌∙◌, mul_comm, arith, length-append}
+use Rattle.std.proofs.Common.{◌≡◌, ℕ, ◌+◌, ◌-◌, ◌*◌, ◌/◌, true, List, length, take, Ok, Err, Result, sym, ap, ◌∙◌, mul_comm, arith, length-append}
 use Rattle.std.proofs.lemmas.Nat.{div-mul-add}
 use Rattle.std.proofs.lemmas.List.{length-take-le}
 use Rattle.settings.specs.declared.Settings.{Settings}
@@ -9,8 +9,8 @@ use Rattle.mapping.specs.Meaning.{MappingMeaning}
 use Rattle.link.specs.Line.{line_length, block_line, block_memory, line_of_rows}
 use Rattle.link.specs.Refusal.{mapping_fits, put_refusal, draw_refusal}
 use Rattle.link.specs.SenderSteps.{PutStep, DrawStep}
-use Rattle.link.specs.SenderHistory.{SenderCall, SenderHistory, frames_put, line_sent}
-use Rattle.link.specs.SenderLaws.{frames_of_block, PutAnswered, DrawAnswered, SenderRefusals, SenderLaws}
+use Rattle.link.specs.SenderHistory.{SenderCall, frames_put, line_sent}
+use Rattle.link.specs.SenderLaws.{frames_of_block, PutAnswered, DrawAnswered, SenderLaws}
 use Rattle.link.specs.declared.fault.PutFault.{PutFault}
 use Rattle.link.specs.declared.fault.DrawFault.{DrawFault}
 use Rattle.link.specs.declared.state.SenderState.{SenderState}

@@ -1,14 +1,12 @@
 -- A place of a block's line: in a marker, or in the data behind it.
-use Rattle.std.proofs.Common.{◌≡◌, ℕ, ◌+◌, ◌-◌, ◌*◌, ◌/◌, ◌%◌, ◌<◌, ◌≤◌, min, true, eqb, ltb, List, ◌++◌, length, get_or, take, drop, Some, None, Ok, Err, Result, sym, refl, ap, ◌∙◌, subst, mul_comm, zero-add, arith, length-take}
+use Rattle.std.proofs.Common.{◌≡◌, ℕ, ◌+◌, ◌-◌, ◌*◌, ◌/◌, ◌%◌, ◌<◌, ◌≤◌, min, true, List, ◌++◌, length, get_or, take, drop, None, Ok, Err, Result, sym, ap, ◌∙◌, subst, zero-add, arith, length-take}
 use Rattle.std.proofs.lemmas.Nat.{div-add-mod', div_below, mod_below, mul-le}
 use Rattle.std.proofs.lemmas.Bool.{lt-ltb, eq-eqb}
 use Rattle.settings.specs.declared.Settings.{Settings}
 use Rattle.settings.specs.Lengths.{block_length, subframes, subframe_data, period}
 use Rattle.mapping.specs.Meaning.{MappingMeaning, block_size}
 use Rattle.mapping.specs.Bulk.{stretch_refusal, line_octet, WriteAnswer}
-use Rattle.mapping.specs.Bulk as bulk
 use Rattle.mapping.specs.declared.fault.MappingFault.{MappingFault}
-use Rattle.marker.specs.Marker.{marker}
 use Rattle.link.specs.Line.{line_length, block_line}
 use Rattle.link.specs.Pieces.{FrontWritten, MarkerWritten, PieceWritten, from}
 use Rattle.link.specs.Refusal.{mapping_fits}

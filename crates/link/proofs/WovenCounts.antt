@@ -1,13 +1,13 @@
 -- Counting the places of a row word by word.
-use Rattle.std.proofs.Common.{◌≡◌, ℕ, zero, suc, ◌+◌, ◌*◌, ◌%◌, ◌<◌, ◌≤◌, Bool, true, false, cond, not, eqb, ◌⊎◌, List, length, get_or, sym, refl, ap, ◌∙◌, ap₂, inl, inr, suc-mul, zero-mul, arith}
+use Rattle.std.proofs.Common.{◌≡◌, ℕ, zero, suc, ◌+◌, ◌*◌, ◌%◌, ◌<◌, Bool, false, cond, not, eqb, ◌⊎◌, List, get_or, sym, ap, ◌∙◌, ap₂, inl, inr, suc-mul, zero-mul, arith}
 use Rattle.std.proofs.lemmas.Nat.{mod-mul-add}
 use Rattle.std.proofs.lemmas.Bool.{cases_Bool, cases_eq, ne_eqb, eq-eqb, and_left, and_right}
-use Rattle.octets.specs.Counting.{sum, count}
+use Rattle.octets.specs.Counting.{count}
 use Rattle.octets.specs.Octets.{differs, altered}
 use Rattle.octets.specs.Words.{word_length, word_place, word_of, of_word, KeepsOthers}
 use Rattle.octets.proofs.Counting.{count_zero, count_suc, count_split, count_none, count_except, count_alike, sum_alike, sum_of_sums, except}
 use Rattle.octets.proofs.Octets.{differs_same}
-use Rattle.octets.proofs.Words.{word_at, place_of_word}
+use Rattle.octets.proofs.Words.{word_at}
 
 -- 1 for a place that passes, 0 for another
 abbrev pub tick : Bool → ℕ

@@ -1,5 +1,5 @@
 -- Feeding a receiver: octet after octet, and where it stops. The same octets lead to the same end, however they are cut.
-use Rattle.std.specs.Prelude.{◌≡◌, ℕ, ◌+◌, Bool, true, false, cond, List, [], ◌∷◌, ◌++◌, length, take, Some, None, Option}
+use Rattle.std.specs.Prelude.{◌≡◌, ℕ, ◌+◌, Bool, true, false, List, [], ◌∷◌, ◌++◌, take, Some, None, Option}
 use Rattle.settings.specs.declared.Settings.{Settings}
 use Rattle.mapping.specs.Meaning.{MappingMeaning}
 use Rattle.link.specs.declared.receiving.Mode.{Mode}

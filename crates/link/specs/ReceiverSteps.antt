@@ -1,5 +1,5 @@
 -- What feed, next and show do: to the receiver's state, to the memory.
-use Rattle.std.specs.Prelude.{◌≡◌, ℕ, ◌+◌, ◌-◌, ◌*◌, Bool, true, false, cond, ◌&&◌, List, take, drop, Some, None, Ok, Err, Option, Result, ◌==◌}
+use Rattle.std.specs.Prelude.{◌≡◌, ℕ, ◌+◌, ◌-◌, ◌*◌, true, false, cond, ◌&&◌, List, take, drop, Some, None, Ok, Err, Option, Result, ◌==◌}
 use Rattle.settings.specs.declared.Settings.{Settings}
 use Rattle.settings.specs.Lengths.{row_length}
 use Rattle.code.specs.Meaning.{CodeMeaning}

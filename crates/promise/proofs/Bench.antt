@@ -1,10 +1,9 @@
 -- The bench values, worked out.
-use Rattle.std.proofs.Common.{◌≡◌, ℕ, ◌*◌, ◌<◌, List, [], ◌∷◌, drop, replicate, refl, subst, arith}
+use Rattle.std.proofs.Common.{ℕ, ◌*◌, replicate, refl, subst, arith}
 use lib.ListN.{length-replicate}
 use Rattle.std.proofs.lemmas.List.{take-replicate}
 use Rattle.std.proofs.lemmas.Nat.{mul-le}
 use Rattle.octets.specs.Words.{word_length}
-use Rattle.marker.specs.Marker.{marker}
 use Rattle.marker.proofs.Markers as markers
 use Rattle.mapping.proofs.Worked as mappings
 use Rattle.rs16.specs.Field.{mul, mul_digits, times_alpha}

@@ -3,9 +3,9 @@ use Rattle.std.proofs.Common.{◌≡◌, ℕ, zero, suc, ◌+◌, ◌*◌, ◌%�
 use Rattle.std.proofs.lemmas.Nat.{mod_below}
 use Rattle.std.proofs.lemmas.Bool.{le-ltb, eq-eqb}
 use Rattle.settings.specs.declared.Settings.{Settings}
-use Rattle.settings.specs.Lengths.{subframes, subframe_data, period}
+use Rattle.settings.specs.Lengths.{subframes, period}
 use Rattle.marker.specs.Reading.{count_read}
-use Rattle.link.specs.Rules.{empty_window, seven, gives_lock, lock_at, mode_after}
+use Rattle.link.specs.Rules.{seven, gives_lock, lock_at, mode_after}
 use Rattle.link.specs.declared.receiving.Window.{Window}
 use Rattle.link.specs.declared.receiving.Mode.{Mode}
 use Rattle.link.specs.declared.receiving.Mode.TheVariants.{Hunting, Reading, Checking}

@@ -6,7 +6,7 @@ use Rattle.settings.specs.Lengths.{subframes, subframe_data, period, resync_leng
 use Rattle.link.specs.Line.{line_length}
 use Rattle.link.specs.declared.receiving.Mode.{Mode}
 use Rattle.link.specs.declared.receiving.Mode.TheVariants.{Hunting, Reading, Checking}
-use Rattle.promise.specs.Reception.{Reception, CoveredLine, AlteredMarker, OtherwiseCovered}
+use Rattle.promise.specs.Reception.{Reception, AlteredMarker, OtherwiseCovered}
 use Rattle.promise.proofs.Places.{same_marker, subframe_place}
 use Rattle.promise.proofs.Modes.{mode_at, InData, InMarker, SoundCourse}
 use Rattle.promise.proofs.Heard.{length_taken, block_base}

@@ -9,13 +9,13 @@ use Rattle.marker.specs.Marker.{marker}
 use Rattle.marker.specs.Reading.{first_cause}
 use Rattle.marker.specs.declared.cause.Cause.{Cause}
 use Rattle.marker.proofs.Markers.{marker_octets, cause_of_hit}
-use Rattle.link.specs.Rules.{empty_window, with_octet, seven, onward, judged_mode, mode_after}
+use Rattle.link.specs.Rules.{seven, onward, judged_mode, mode_after}
 use Rattle.link.specs.declared.receiving.Window.{Window}
 use Rattle.link.specs.declared.receiving.Lock.{Lock}
 use Rattle.link.specs.declared.receiving.Mode.{Mode}
 use Rattle.link.specs.declared.receiving.Mode.TheVariants.{Hunting, Reading, Checking}
 use Rattle.link.proofs.Lengths.{subframes_high, subframe_data_some}
-use Rattle.promise.specs.Reception.{Reception, Intact, AlteredMarker}
+use Rattle.promise.specs.Reception.{Reception, AlteredMarker}
 use Rattle.promise.proofs.OnLine.{MarkersSent}
 use Rattle.promise.proofs.Windows.{held_octets, SixPlaces, empty_places, places_more, held_more, seven_length, seven_held, suffix_more, intact_window, window_whole}
 

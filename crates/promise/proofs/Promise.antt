@@ -1,5 +1,5 @@
 -- The link promise, proved.
-use Rattle.std.proofs.Common.{◌≡◌, ℕ, true, List, refl}
+use Rattle.std.proofs.Common.{◌≡◌, ℕ, true, refl}
 use Rattle.settings.specs.declared.Settings.{Settings}
 use Rattle.settings.specs.Lengths.{resync_length}
 use Rattle.settings.proofs.Ranges.{ranges}

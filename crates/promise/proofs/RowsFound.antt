@@ -1,16 +1,14 @@
 -- The rows of a block as it arrived, mended one after the other in the memory.
-use Rattle.std.proofs.Common.{◌≡◌, ℕ, suc, ◌+◌, ◌-◌, ◌*◌, ◌<◌, ◌≤◌, ◌⊎◌, List, ◌++◌, length, get_or, take, drop, Result, sym, refl, ap, ◌∙◌, subst, inl, inr, ⊎_elim, arith, length-drop, length-take}
-use Rattle.std.proofs.lemmas.Nat.{mul-le}
-use Rattle.std.proofs.lemmas.List.{get_or_append_left, get_or-append_right, get_or-take, get_or-drop, ext_get_or, length-take-le, drop_at, take_at}
+use Rattle.std.proofs.Common.{◌≡◌, ℕ, ◌+◌, ◌<◌, ◌≤◌, List, length, Result, sym, refl, ◌∙◌, subst, ⊎_elim, arith}
 use Rattle.std.proofs.lemmas.Bool.{cases_lt}
 use Rattle.settings.specs.declared.Settings.{Settings}
-use Rattle.settings.specs.Lengths.{row_length, block_length}
+use Rattle.settings.specs.Lengths.{block_length}
 use Rattle.code.specs.Meaning.{CodeMeaning}
 use Rattle.mapping.specs.Meaning.{MappingMeaning}
 use Rattle.link.specs.Frames.{row_at, with_row}
 use Rattle.link.specs.RowMending.{MendedRow}
 use Rattle.link.specs.declared.mending.RowFault.{RowFault}
-use Rattle.link.proofs.Rows.{row_new, row_other, row_top, length_with_row}
+use Rattle.link.proofs.Rows.{row_new, row_other, length_with_row}
 use Rattle.promise.proofs.Found.{Arrived, RowFound}
 
 module _ (s : Settings) (m : MappingMeaning) (T : List ℕ) (base : ℕ) (code : CodeMeaning) where

@@ -1,5 +1,5 @@
 -- Where a receiver can be, octet by octet: hunting, loosely locked on what came before the line, or locked in step with the line.
-use Rattle.std.proofs.Common.{◌≡◌, ℕ, ◌+◌, ◌-◌, ◌*◌, ◌/◌, ◌%◌, ◌<◌, ◌≤◌, Bool, true, false, cond, ◌&&◌, ◌||◌, eqb, ltb, ◌⊎◌, List, [], ◌∷◌, ◌++◌, length, get_or, take, Some, None, Option, sym, refl, ap, ◌∙◌, subst, inl, inr, ⊎_elim, append_assoc, append-nil, arith}
+use Rattle.std.proofs.Common.{◌≡◌, ℕ, ◌+◌, ◌-◌, ◌*◌, ◌/◌, ◌%◌, ◌<◌, ◌≤◌, Bool, true, false, cond, eqb, ◌⊎◌, List, [], ◌∷◌, ◌++◌, length, get_or, take, Some, None, Option, sym, refl, ap, ◌∙◌, inl, inr, ⊎_elim, append_assoc, append-nil, arith}
 use Rattle.std.proofs.lemmas.Nat.{div-add-mod', mod_below}
 use Rattle.std.proofs.lemmas.Bool.{lt-ltb, le-ltb, cases_lt, cases_Bool, eqb-true, eq-eqb}
 use Rattle.settings.specs.declared.Settings.{Settings}
@@ -10,7 +10,7 @@ use Rattle.marker.specs.Reading.{count_read, sync_is_right, parity_is_right, fir
 use Rattle.marker.specs.declared.cause.Cause.{Cause}
 use Rattle.marker.specs.declared.cause.Cause.TheVariants.{SyncWord, Parity, Count}
 use Rattle.marker.proofs.Markers.{count_of_marker, sync_of_marker, parity_of_marker}
-use Rattle.link.specs.Rules.{empty_window, with_octet, seven, latest_six, gives_lock, lock_at, gained_report, onward, last_miss, judged_mode, judged_report, mode_after, report_of}
+use Rattle.link.specs.Rules.{empty_window, seven, latest_six, gives_lock, lock_at, gained_report, onward, judged_mode, judged_report, mode_after, report_of}
 use Rattle.link.specs.declared.receiving.Window.{Window}
 use Rattle.link.specs.declared.receiving.Lock.{Lock}
 use Rattle.link.specs.declared.receiving.Mode.{Mode}

@@ -1,7 +1,7 @@
 -- Frames wait just where the octets taken end with a block's last octet and not all nexts are made: so every call is refused as the table says.
 use Rattle.std.proofs.Common.{◌≡◌, ℕ, ◌+◌, ◌-◌, ◌<◌, ◌≤◌, Bool, true, false, cond, ◌&&◌, List, [], ◌∷◌, ◌++◌, length, get_or, take, Ok, Err, Option, Result, sym, refl, ap, ◌∙◌, ⊎_elim, append-nil, arith, length-append}
 use Rattle.std.proofs.lemmas.List.{take_more, length-take-le}
-use Rattle.std.proofs.lemmas.Bool.{cases_lt, cases_Bool, le-ltb, cond-true}
+use Rattle.std.proofs.lemmas.Bool.{cases_lt, cases_Bool, le-ltb}
 use Rattle.settings.specs.declared.Settings.{Settings}
 use Rattle.code.specs.Meaning.{CodeMeaning}
 use Rattle.mapping.specs.Meaning.{MappingMeaning}

@@ -1,5 +1,5 @@
 -- The octets that a window holds, and seven octets that end where a marker of the line does.
-use Rattle.std.proofs.Common.{◌≡◌, ℕ, suc, ◌+◌, ◌-◌, ◌*◌, ◌<◌, ◌≤◌, List, [], ◌∷◌, ◌++◌, length, get_or, take, drop, sym, refl, ap, ◌∙◌, subst, arith, length-append, length-set}
+use Rattle.std.proofs.Common.{◌≡◌, ℕ, ◌+◌, ◌-◌, ◌*◌, ◌<◌, ◌≤◌, List, [], ◌∷◌, ◌++◌, length, get_or, take, sym, refl, ap, ◌∙◌, subst, arith, length-append, length-set}
 use Rattle.std.proofs.lemmas.List.{get_or-append-add, get_or-take, ext_get_or, take_more, take_more_set, length-take-le, append_assoc}
 use Rattle.settings.specs.declared.Settings.{Settings}
 use Rattle.settings.specs.Lengths.{subframes, period}
@@ -7,7 +7,7 @@ use Rattle.marker.specs.Marker.{marker}
 use Rattle.marker.proofs.Markers.{length_marker}
 use Rattle.link.specs.Rules.{empty_window, with_octet, seven, latest_six}
 use Rattle.link.specs.declared.receiving.Window.{Window}
-use Rattle.promise.specs.Reception.{Reception, Intact, AsSent, Taken}
+use Rattle.promise.specs.Reception.{Reception, Intact, Taken}
 use Rattle.promise.proofs.OnLine.{MarkersSent}
 use Rattle.promise.proofs.Heard.{heard_octet, length_taken}
 

@@ -1,5 +1,5 @@
 -- What the named codes and interleavers mean, and the quotes for links that are built with them.
-use Rattle.std.specs.Prelude.{◌≡◌, ℕ, Bool, true, false, cond, Ok, Err, Result}
+use Rattle.std.specs.Prelude.{◌≡◌, Bool, true, false, cond, Ok, Err, Result}
 use Rattle.settings.specs.declared.Settings.{Settings}
 use Rattle.code.specs.Meaning.{CodeMeaning}
 use Rattle.code.specs.Bare.{bare}

@@ -1,5 +1,5 @@
 -- Where the calls of a receiver are refused, told by its history alone.
-use Rattle.std.specs.Prelude.{◌≡◌, ℕ, Bool, true, false, cond, ◌&&◌, List, [], ◌∷◌, length, Some, None, Ok, Err, Option, Result}
+use Rattle.std.specs.Prelude.{◌≡◌, ℕ, Bool, false, cond, ◌&&◌, List, [], ◌∷◌, length, Some, None, Ok, Err, Option, Result}
 use Rattle.settings.specs.declared.Settings.{Settings}
 use Rattle.code.specs.Meaning.{CodeMeaning}
 use Rattle.mapping.specs.Meaning.{MappingMeaning}

@@ -1,13 +1,12 @@
 -- The steps of the loops: one step of the division, the division of a list, and Horner's rule.
-use Rattle.std.proofs.Common.{◌≡◌, ℕ, zero, suc, ◌+◌, ◌-◌, ◌<◌, ◌≤◌, List, [], ◌∷◌, length, get_or, drop, set, sym, refl, ap, ◌∙◌, subst, ap₂, inl, inr, le_of_suc-le-suc, not-suc-le-zero, one-add, arith}
-use Rattle.std.proofs.lemmas.List.{drop_more, drop_all, ext_get_or, get_or_past, get_or-drop, length-drop, length-set, get_or-set_same, get_or-set_other}
-use Rattle.std.proofs.lemmas.Bool.{cases_eq}
+use Rattle.std.proofs.Common.{◌≡◌, ℕ, zero, suc, ◌+◌, ◌-◌, ◌<◌, ◌≤◌, List, [], ◌∷◌, length, get_or, drop, sym, refl, ap, ◌∙◌, subst, ap₂, le_of_suc-le-suc, not-suc-le-zero, one-add, arith}
+use Rattle.std.proofs.lemmas.List.{drop_more, drop_all, get_or-drop, length-drop}
 use Rattle.rs16.specs.Field.{◌⊕◌, ◌⊗◌, IsOctet, pow}
 use Rattle.rs16.specs.DualBasis.{element}
 use Rattle.rs16.specs.Codewords.{value}
 use Rattle.rs16.specs.Division.{generator, multiple, plus_multiple, divide_step, remainder}
 use Rattle.rs16.specs.PolynomialsLemmas.{add_assoc, add-mul, add-zero, mul_assoc, mul_one, zero-mul}
-use Rattle.rs16.specs.Remainders.{generator_length, divide_step_length}
+use Rattle.rs16.specs.Remainders.{generator_length}
 
 -- ---- one step of the division
 

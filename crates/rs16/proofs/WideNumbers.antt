@@ -1,11 +1,11 @@
 -- Octets of a wide number: what a move by eight digits and a sum modulo 2 make of them.
-use Rattle.std.proofs.Common.{◌≡◌, ℕ, zero, suc, ◌+◌, ◌-◌, ◌*◌, ◌/◌, ◌%◌, ◌^◌, ◌<◌, ◌≤◌, List, [], ◌∷◌, map, length, get_or, set, sym, refl, ap, ◌∙◌, ap₂, inl, inr, add-one, arith, below_more}
+use Rattle.std.proofs.Common.{◌≡◌, ℕ, zero, suc, ◌+◌, ◌*◌, ◌/◌, ◌%◌, ◌^◌, ◌<◌, ◌≤◌, List, [], ◌∷◌, map, length, get_or, set, sym, ap, ◌∙◌, ap₂, inl, inr, add-one, arith, below_more}
 use lib.Bits.{bit_xor, bit_or, bit_and}
 use Rattle.std.specs.List.{range_with_len}
 use Rattle.std.proofs.lemmas.List.FromFn.{length-map-range_with_len, get_or-map-range_with_len}
 use Rattle.std.proofs.lemmas.List.{ext_get_or, get_or_past, length-set, get_or-set_same, get_or-set_other}
 use Rattle.std.proofs.lemmas.Bool.{cases_lt}
-use Rattle.std.proofs.lemmas.Nat.{xor_shr, xor_mod, shr-shr, shr_split, or_shifted, div-mul-add, shl_whole, mod_below, and_mask, shr_le}
+use Rattle.std.proofs.lemmas.Nat.{xor_shr, xor_mod, shr-shr, shr_split, or_shifted, shl_whole, mod_below, and_mask, shr_le}
 use Rattle.octets.specs.Counting.{tabulate}
 use Rattle.rs16.specs.Division.{generator, multiple, divide_step}
 use Rattle.rs16.specs.Rows.{octet_at, packed, multiples}

@@ -1,5 +1,5 @@
 -- The dual basis: `line_octet` and `element` are additive, give octets, and invert each other.
-use Rattle.std.specs.Prelude.{◌≡◌, ℕ, ◌*◌, ◌/◌, ◌%◌, ◌^◌, ◌<◌, List, [], ◌∷◌, length, bit_xor, nat_eq, refl}
+use Rattle.std.specs.Prelude.{◌≡◌, ℕ, ◌*◌, ◌/◌, ◌%◌, ◌^◌, List, [], ◌∷◌, length, bit_xor, nat_eq, refl}
 use Rattle.std.proofs.Common.{ap, ap₂, sym, ◌∙◌, eqb→eq, lit<}
 use Rattle.std.proofs.lemmas.Nat.{xor_mod, xor_shr, xor_lt}
 use Rattle.std.specs.List.{AllByRecursion}

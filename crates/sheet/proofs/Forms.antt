@@ -1,9 +1,8 @@
 -- A whole form: its parts one after the other.
-use Rattle.std.proofs.Common.{◌≡◌, ℕ, ◌<◌, List, [], ◌∷◌, ◌++◌, codes, decimal, sym, refl, ap, ◌∙◌, ap₂, append_assoc, arith}
+use Rattle.std.proofs.Common.{◌≡◌, ℕ, ◌<◌, List, [], ◌∷◌, ◌++◌, codes, sym, refl, ap, ◌∙◌, ap₂, append_assoc, arith}
 use Rattle.sheet.specs.declared.form.CodeName.{CodeName}
-use Rattle.sheet.specs.declared.form.CodeName.TheVariants.{Rs16}
 use Rattle.sheet.specs.declared.form.LinkForm.{LinkForm}
-use Rattle.sheet.specs.Form.{typed_limit, Typed, text}
+use Rattle.sheet.specs.Form.{typed_limit, text}
 use Rattle.sheet.specs.Language.{Texts, Just, Then, StopsAt, Distinct}
 use Rattle.sheet.specs.Reading.{SomeOf, field_text, NumberField, code_field_text, CodeField, FormText}
 use Rattle.sheet.proofs.Language.{stops_at_alike, stops_at_in_first, stops_at_in_second, just_distinct, then_distinct}

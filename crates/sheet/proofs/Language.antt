@@ -1,5 +1,5 @@
 -- Reading one part after another: where the whole stops, from where its parts do.
-use Rattle.std.proofs.Common.{◌≡◌, ℕ, zero, suc, ◌+◌, ◌-◌, ◌<◌, ◌≤◌, List, [], ◌∷◌, ◌++◌, length, get_or, take, drop, sym, refl, ap, ◌∙◌, subst, append_assoc, arith}
+use Rattle.std.proofs.Common.{◌≡◌, ℕ, suc, ◌-◌, ◌<◌, List, [], ◌∷◌, ◌++◌, length, get_or, take, drop, sym, refl, ap, ◌∙◌, append_assoc, arith}
 use mathlib.Core.List.{append_cancel_left}
 use lib.Seq.{take-length}
 use Rattle.sheet.specs.Language.{Texts, Just, Then, Stops, StopsAt, Distinct}

@@ -1,5 +1,5 @@
 -- The lines of a sheet, taken off its front one after the other.
-use Rattle.std.proofs.Common.{◌≡◌, ℕ, zero, suc, ◌+◌, ◌-◌, ◌<◌, ◌≤◌, cond, eqb, List, [], ◌∷◌, ◌++◌, length, get_or, take, drop, sym, refl, ap, ◌∙◌, subst, append_assoc, append-nil, add-one, arith, length-drop, take-append-drop, take_all, drop-cons}
+use Rattle.std.proofs.Common.{◌≡◌, ℕ, zero, suc, ◌+◌, ◌-◌, ◌<◌, List, [], ◌∷◌, ◌++◌, length, get_or, take, drop, sym, refl, ap, ◌∙◌, subst, append_assoc, append-nil, add-one, arith, length-drop, take-append-drop, take_all, drop-cons}
 use lib.Seq.{drop-length}
 use Rattle.std.proofs.lemmas.Bool.{ne_eqb}
 use Rattle.sheet.specs.Answers.{line_feed, onto, lines_of, AnswerTo, AnswersEach, FirstLine}

@@ -1,5 +1,5 @@
 -- The parts of a form that are read one after the other.
-use Rattle.std.proofs.Common.{◌≡◌, ℕ, ◌<◌, List, [], ◌∷◌, ◌++◌, Ok, Err, codes, decimal, Result, sym, refl, ap, ◌∙◌, ap₂, append_assoc, arith, Bor}
+use Rattle.std.proofs.Common.{◌≡◌, ℕ, List, [], ◌∷◌, ◌++◌, Ok, Err, codes, decimal, Result, sym, refl, ap, ◌∙◌, ap₂, append_assoc, arith, Bor}
 use Rattle.sheet.specs.declared.form.CodeName.{CodeName}
 use Rattle.sheet.specs.declared.form.CodeName.TheVariants.{Rs16, Bare}
 use Rattle.sheet.specs.declared.stop.Stop.{Stop}

@@ -1,5 +1,5 @@
 -- The figures that are quoted for a link.
-use Rattle.std.specs.Prelude.{ℕ, ◌*◌}
+use Rattle.std.specs.Prelude.{◌*◌}
 use Rattle.code.specs.Bare.{bare}
 use Rattle.code.specs.Meaning.{CodeMeaning}
 use Rattle.rs16.specs.Codewords.{rs16}

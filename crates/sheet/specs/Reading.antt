@@ -7,7 +7,7 @@ use Rattle.sheet.specs.declared.stop.Sign.{Sign}
 use Rattle.sheet.specs.declared.stop.Sign.TheVariants.{Open, Close, Space}
 use Rattle.sheet.specs.declared.stop.Stop.{Stop}
 use Rattle.sheet.specs.Form.{typed_limit, code_word, Typed, text}
-use Rattle.sheet.specs.Language.{Texts, Just, Then, StopsAt}
+use Rattle.sheet.specs.Language.{Texts, Just, StopsAt}
 
 -- the octet of a sign
 abbrev pub sign_octet : Sign → ℕ

@@ -1,10 +1,10 @@
 -- Under a total order the worst list of given records is one.
-use Rattle.std.proofs.Common.{◌≡◌, ℕ, zero, suc, ◌≤◌, ◌⊎◌, List, [], ◌∷◌, length, Ordering, Less, Equal, Greater, sym, refl, ap, ◌∙◌, inl, inr, ⊎_elim, arith}
+use Rattle.std.proofs.Common.{◌≡◌, ℕ, zero, suc, ◌≤◌, ◌⊎◌, List, [], ◌∷◌, length, Ordering, Less, Equal, Greater, refl, ap, ◌∙◌, inl, inr, ⊎_elim, arith}
 use Rattle.std.proofs.ByRecursion.{All-weaker, all-has}
 use Rattle.std.specs.List.{ContainsAt, AllByRecursion}
 use Rattle.std.specs.Cmp.{IsTotalOrder}
 use Rattle.worst.specs.Order.{TotalOrder}
-use Rattle.worst.specs.Worst.{Descending, Holds, Outdone, WorstOf, Alike, OneWorst}
+use Rattle.worst.specs.Worst.{Descending, Holds, Outdone, OneWorst}
 use Rattle.worst.proofs.Orders.{lawful}
 use Rattle.worst.proofs.WorstSteps.{above_held, below_turned, above_turned, equal_itself, above_passed_on}
 

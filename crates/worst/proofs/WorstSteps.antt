@@ -1,5 +1,5 @@
 -- Noting a record keeps a list the worst of all that was noted.
-use Rattle.std.proofs.Common.{◌≡◌, ℕ, zero, suc, ◌≤◌, min, ◌⊎◌, List, [], ◌∷◌, ◌++◌, length, take, Ordering, Less, Equal, Greater, sym, refl, ap, ◌∙◌, inl, inr, ⊎_elim, arith}
+use Rattle.std.proofs.Common.{◌≡◌, ℕ, zero, suc, ◌⊎◌, List, [], ◌∷◌, length, take, Ordering, Less, Equal, Greater, refl, ap, ◌∙◌, inl, inr, ⊎_elim, arith}
 use Rattle.std.proofs.lemmas.List.{length-take}
 use Rattle.std.proofs.ByRecursion.{All-weaker, All-take, has_append_left, has_append_right, has_push}
 use Rattle.std.specs.List.{ContainsAt, AllByRecursion}

@@ -1,4 +1,4 @@
-use Rattle.std.proofs.Common.{◌≡◌, ◌+◌, ◌-◌, ◌<◌, ◌≤◌, length, get_or, take, drop, refl, ap, ◌∙◌, add_assoc, arith, length-drop, length-take}
+use Rattle.std.proofs.Common.{◌+◌, ◌-◌, ◌≤◌, length, get_or, take, drop, ap, add_assoc, arith, length-take}
 use Rattle.link.specs.Line.{block_line}
 use Rattle.link.specs.Pieces.{from}
 use Rattle.link.proofs.Pieces.{front_more}

@@ -1,4 +1,4 @@
-use Rattle.std.proofs.Common.{◌≡◌, refl, ap, ◌∙◌, subst, arith}
+use Rattle.std.proofs.Common.{◌≡◌, refl, subst, arith}
 use Rattle.link.specs.Pieces.{FrontWritten, from}
 use Rattle.link.proofs.Pieces.{front_none, front_set}
 use Rattle.link.proofs.drawing.write_marker_from.Goals as goal

@@ -1,4 +1,4 @@
-use Rattle.std.proofs.Common.{◌≡◌, ◌-◌, ◌*◌, ◌≤◌, length, subst, arith, rules}
+use Rattle.std.proofs.Common.{◌≡◌, ◌-◌, ◌≤◌, length, subst, arith, rules}
 use Rattle.std.proofs.lemmas.Nat.{mul-le}
 use Rattle.settings.proofs.Ranges.{depth_low}
 use Rattle.link.proofs.RowWords.{EncodedUpTo, word_there, encoded_from_answer, encoded_none, encoded_more, encoded_all}

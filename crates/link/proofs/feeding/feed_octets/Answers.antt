@@ -1,4 +1,4 @@
-use Rattle.std.proofs.Common.{◌≡◌, sym, refl, ◌∙◌, arith}
+use Rattle.std.proofs.Common.{sym, refl, ◌∙◌, arith}
 use Rattle.link.proofs.FeedLoop.{fed_whole, fed_to_report, fed_to_end, fed_on, fits_still, size_still}
 use Rattle.link.proofs.feeding.feed_octets.Goals as goal
 

@@ -1,4 +1,4 @@
-use Rattle.std.proofs.Common.{◌≡◌, ◌+◌, ◌*◌, ◌<◌, ◌≤◌, ap, arith, rules}
+use Rattle.std.proofs.Common.{◌+◌, ◌*◌, ◌≤◌, ap, arith, rules}
 use Rattle.settings.proofs.Ranges.{block_length_high}
 use Rattle.link.proofs.ModeFits.{data_sizes}
 use Rattle.link.proofs.Tables.{mapping_sizes}

@@ -1,10 +1,8 @@
-use Rattle.std.proofs.Common.{◌≡◌, ℕ, ◌*◌, Ok, Err, sym, refl, ap, ◌∙◌, subst, ap₂}
+use Rattle.std.proofs.Common.{◌≡◌, ◌*◌, Ok, sym, refl, ap, ◌∙◌, subst}
 use Rattle.std.proofs.lemmas.Bool.{le-leb, cond-true}
 use Rattle.octets.specs.Words.{max_reach}
 use Rattle.mapping.specs.Answers.{fade_answer}
-use Rattle.promise.specs.Promise.{LinkPromise}
 use Rattle.promise.specs.Quotes.{figures, Quoted}
-use Rattle.promise.specs.declared.figures.Quote.{Quote}
 use Rattle.promise.proofs.Promise.{link_promise}
 use Rattle.promise.proofs.quoting.quote.Goals as goal
 

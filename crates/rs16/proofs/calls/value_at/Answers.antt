@@ -1,4 +1,4 @@
-use Rattle.std.proofs.Common.{◌≡◌, ℕ, ◌+◌, ◌-◌, ◌<◌, List, length, get_or, drop, sym, ap, ◌∙◌, subst, ap₂, arith, lit<, rules}
+use Rattle.std.proofs.Common.{◌≡◌, ℕ, ◌+◌, ◌-◌, List, length, get_or, drop, sym, ap, ◌∙◌, subst, ap₂, arith, lit<, rules}
 use Rattle.rs16.specs.Field.{◌⊕◌, ◌⊗◌, IsOctet, pow}
 use Rattle.rs16.specs.DualBasis.{element}
 use Rattle.rs16.specs.Codewords.{root, value}

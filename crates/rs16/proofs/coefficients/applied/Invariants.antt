@@ -1,4 +1,4 @@
-use Rattle.std.proofs.Common.{◌≡◌, ◌+◌, ◌-◌, get_or, drop}
+use Rattle.std.proofs.Common.{◌≡◌, ◌+◌, get_or, drop}
 use Rattle.rs16.specs.Field.{◌⊕◌}
 use Rattle.rs16.specs.Polynomials.{apply}
 use Rattle.rs16.proofs.coefficients.applied.Given as goal

@@ -1,4 +1,4 @@
-use Rattle.std.proofs.Common.{◌≡◌, ℕ, ◌+◌, List, drop, sym, refl, ap, ◌∙◌, arith}
+use Rattle.std.proofs.Common.{ℕ, ◌+◌, List, drop, sym, refl, ap, ◌∙◌, arith}
 use Rattle.rs16.specs.Division.{remainder, checks}
 use Rattle.rs16.specs.Rows.{octets_of}
 use Rattle.rs16.proofs.Steps.{remainder_more, remainder_all}

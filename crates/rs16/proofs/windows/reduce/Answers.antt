@@ -1,4 +1,4 @@
-use Rattle.std.proofs.Common.{◌≡◌, ℕ, ◌+◌, ◌-◌, ◌<◌, ◌≤◌, List, [], length, get_or, sym, ◌∙◌, subst, arith, rules}
+use Rattle.std.proofs.Common.{◌≡◌, ℕ, ◌+◌, ◌<◌, ◌≤◌, List, [], length, get_or, sym, ◌∙◌, subst, arith, rules}
 use Rattle.rs16.specs.Mending.{Monic, Cleared}
 use Rattle.rs16.proofs.Elimination.{taken_off, cleared_more}
 use Rattle.rs16.proofs.windows.reduce.Goals as goal

@@ -1,5 +1,5 @@
-use Rattle.std.proofs.Common.{◌≡◌, ℕ, ◌+◌, ◌-◌, ◌<◌, ◌≤◌, List, length, get_or, sum, sym, ap, ◌∙◌, subst, arith, rules}
-use Rattle.rs16.specs.Field.{◌⊗◌, inv}
+use Rattle.std.proofs.Common.{◌≡◌, ℕ, ◌+◌, ◌<◌, ◌≤◌, List, length, get_or, sum, sym, ap, ◌∙◌, subst, arith, rules}
+use Rattle.rs16.specs.Field.{◌⊗◌}
 use Rattle.rs16.specs.Mending.{Pivot, Cleared}
 use Rattle.std.proofs.lemmas.List.{length-set}
 use Rattle.rs16.proofs.Elimination.{unit_monic, new_pivot, pivots_more, flags_more, count_more, count_most, solved}

@@ -1,6 +1,6 @@
-use Rattle.std.proofs.Common.{ℕ, List, Ok, string_bytes}
+use Rattle.std.proofs.Common.{Ok, string_bytes}
 use Rattle.std.proofs.lemmas.Result.{IfOk-weaker}
-use Rattle.sheet.specs.Answers.{AnswerTo, answer_text}
+use Rattle.sheet.specs.Answers.{AnswerTo}
 use Rattle.sheet.proofs.answers.answer_line.Goals as goal
 
 pub returns-in-Ok : goal.returns-in-Ok

@@ -1,4 +1,4 @@
-use Rattle.std.proofs.Common.{◌∷◌, sym, ap, ◌∙◌, arith}
+use Rattle.std.proofs.Common.{arith}
 use Rattle.sheet.proofs.Language.{uncons, none_left}
 use Rattle.sheet.proofs.reader.first.Goals as goal
 

@@ -1,4 +1,4 @@
-use Rattle.std.proofs.Common.{[], ◌∷◌, ◌++◌, Err, ap, ◌∙◌}
+use Rattle.std.proofs.Common.{[], ◌∷◌, Err, ap, ◌∙◌}
 use Rattle.std.proofs.lemmas.Result.{err_from_is_err_and}
 use Rattle.sheet.specs.Reading.{opening_of}
 use Rattle.sheet.proofs.Parts.{literal_begins, passed_behind, field_begins, field_reads}

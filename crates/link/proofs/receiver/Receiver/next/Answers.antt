@@ -1,4 +1,4 @@
-use Rattle.std.proofs.Common.{◌≡◌, ◌+◌, ◌-◌, ◌*◌, ◌<◌, ◌≤◌, length, refl, ap, arith, rules}
+use Rattle.std.proofs.Common.{◌+◌, ◌-◌, ◌*◌, ◌<◌, ◌≤◌, length, refl, ap, arith, rules}
 use Rattle.link.proofs.ReceiverTables.{next_accepted, part_mended}
 use Rattle.link.proofs.Rows.{row_top, row_put}
 use Rattle.link.proofs.receiver.Receiver.next.Goals as goal

@@ -1,4 +1,4 @@
-use Rattle.std.proofs.Common.{◌≡◌, ◌+◌, ◌-◌, ◌*◌, ◌<◌, ◌≤◌, length, sym, refl, ap, ◌∙◌, subst, arith, rules}
+use Rattle.std.proofs.Common.{◌+◌, ◌-◌, ◌*◌, ◌<◌, ◌≤◌, length, ap, arith, rules}
 use Rattle.std.proofs.lemmas.Nat.{mul-le}
 use Rattle.link.proofs.Rows.{row_top}
 use Rattle.link.proofs.ReceiverTables.{answered_some}

@@ -1,4 +1,4 @@
-use Rattle.std.proofs.Common.{◌≡◌, ◌+◌, ◌-◌, ◌*◌, ◌<◌, ◌≤◌, length, refl, ap, ◌∙◌, subst, ap₂, arith, rules}
+use Rattle.std.proofs.Common.{◌+◌, ◌*◌, ◌<◌, ◌≤◌, length, refl, ap, ◌∙◌, subst, ap₂, arith, rules}
 use Rattle.link.specs.Frames.{EncodedFrame}
 use Rattle.link.proofs.Tables.{put_accepted}
 use Rattle.link.proofs.Rows.{row_top, row_put}

@@ -1,7 +1,7 @@
-use Rattle.std.proofs.Common.{◌≡◌, ℕ, ◌+◌, ◌*◌, ◌/◌, ◌%◌, ◌<◌, get_or, ◌∙◌, ap₂, arith, rules}
+use Rattle.std.proofs.Common.{◌≡◌, ℕ, ◌+◌, ◌*◌, ◌/◌, ◌%◌, ◌<◌, ◌∙◌, ap₂, arith, rules}
 use Rattle.std.proofs.lemmas.List.FromFn.{get_or-map-range_with_len}
 use Rattle.rs16.specs.DualBasis.{combine, line_octet, element}
-use Rattle.rs16.specs.Division.{generator, multiple}
+use Rattle.rs16.specs.Division.{generator}
 use Rattle.rs16.specs.Field.{mul, mul_digits, times_alpha}
 use Rattle.rs16.specs.Rows.{multiples_part}
 use Rattle.rs16.proofs.rows.steps.multiples_part.Goals as goal
