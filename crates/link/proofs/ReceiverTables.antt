@@ -14,7 +14,7 @@ use Rattle.link.specs.ReceiverRefusal.{feed_refusal, next_refusal, show_refusal}
 use Rattle.link.proofs.Tables.{none_first, none_only}
 
 -- behind next some row is answered
-pub answered_some : (afterNext : Bool) (answered : ℕ) → next_is_fit afterNext answered ≡ true → afterNext ≡ true → 0 < answered
+pub answered_some : (after_next : Bool) (answered : ℕ) → next_is_fit after_next answered ≡ true → after_next ≡ true → 0 < answered
 answered_some true answered fits e = ltb-true 0 answered fits
 answered_some false answered fits e = let z : ◌≡◌ {A = ℕ} 0 1 = cc in absurd (omega arith)
 
@@ -48,8 +48,8 @@ module _ (s : Settings) where
       let q = none_first _ _ _ p.1 in
       (eqb-true (length memory) (block_length s) p.0, ltb-true answered s.rows q.0)
 
-  pub show_fits : (afterNext : Bool) (memory : List ℕ) → show_refusal s afterNext memory ≡ None → (length memory ≡ block_length s) × (afterNext ≡ true)
-  show_fits afterNext memory e =
+  pub show_fits : (after_next : Bool) (memory : List ℕ) → show_refusal s after_next memory ≡ None → (length memory ≡ block_length s) × (after_next ≡ true)
+  show_fits after_next memory e =
       let p = none_first _ _ _ e in
       let q = none_first _ _ _ p.1 in
       (eqb-true (length memory) (block_length s) p.0, q.0)

@@ -23,4 +23,4 @@ mode_is_fit s (Checking lock w) = lock_is_fit s lock && window_is_fit w
 
 -- Behind next some row is answered.
 abbrev pub next_is_fit : Bool → ℕ → Bool
-next_is_fit afterNext answered = not afterNext || nat_lt 0 answered
+next_is_fit after_next answered = not after_next || nat_lt 0 answered

@@ -45,7 +45,7 @@ next_refusal s answered memory =
 
 -- show, by whether the latest accepted call of feed and next was next
 abbrev pub show_refusal : Settings → Bool → List ℕ → Option ShowFault
-show_refusal s afterNext memory =
+show_refusal s after_next memory =
     cond (memory_fits s memory) (
-    cond afterNext None (Some show-fault.TheVariants.NotNext)
+    cond after_next None (Some show-fault.TheVariants.NotNext)
     ) (Some show-fault.TheVariants.Memory)

@@ -3,7 +3,7 @@ ghost use Rattle.std.specs.Prelude.{◌≡◌, ◌<◌, true, if◌then◌else�
 ghost use Rattle.marker.specs.Marker.{marker};
 ghost use Rattle.marker.specs.Reading.{count_read, first_cause};
 ghost use Rattle.link.specs.ReceiverFits.{lock_is_fit};
-ghost use Rattle.link.specs.Rules.{with_octet, seven, latest_six, gives_lock, lock_at, gained_report, onward, last_miss, judged_mode, judged_report, next_lock};
+ghost use Rattle.link.specs.Rules.{with_octet, seven, latest_six, gives_lock, lock_at, onward, last_miss, judged_mode, judged_report, next_lock};
 ghost use Rattle.link.specs.Hearing.{Hunted, Judged};
 
 use crate::drawing::subframe_marker;

@@ -1,5 +1,4 @@
 // A quote: numbers with the promise that they carry.
-ghost use Rattle.std.specs.Prelude.{◌≡◌};
 ghost use Rattle.promise.specs.Quotes.{Quotes};
 
 use crate::Quote;

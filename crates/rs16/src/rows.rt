@@ -1,6 +1,4 @@
 // Thirty-two octets held as four numbers of 64 digits, so that a step of the division moves and adds them together.
-ghost use Rattle.std.specs.Prelude.{◌≡◌, ◌/◌};
-ghost use Rattle.std.specs.Int.Bits.{bit_xor};
 
 mod steps;
 

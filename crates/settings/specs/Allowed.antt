@@ -15,8 +15,8 @@ symbol_is_allowed depth symbol = nat_le 1 symbol && 255 * depth % symbol == 0
 
 -- a divisor of the rows
 abbrev pub subframe_rows_are_allowed : ℕ → ℕ → Bool
-subframe_rows_are_allowed rows subframeRows = nat_le 1 subframeRows && rows % subframeRows == 0
+subframe_rows_are_allowed rows subframe_rows = nat_le 1 subframe_rows && rows % subframe_rows == 0
 
 -- 1 to 255 misses in a row
 abbrev pub miss_limit_is_allowed : ℕ → Bool
-miss_limit_is_allowed missLimit = nat_le 1 missLimit && nat_le missLimit 255
+miss_limit_is_allowed miss_limit = nat_le 1 miss_limit && nat_le miss_limit 255

@@ -13,12 +13,12 @@ number MissLimit = 5
 
 -- the first check that fails
 abbrev pub refusal : ℕ → ℕ → ℕ → ℕ → ℕ → Option SettingsFault
-refusal depth rows symbol subframeRows missLimit =
+refusal depth rows symbol subframe_rows miss_limit =
     cond (depth_is_allowed depth) (
     cond (rows_are_allowed rows) (
     cond (symbol_is_allowed depth symbol) (
-    cond (subframe_rows_are_allowed rows subframeRows) (
-    cond (miss_limit_is_allowed missLimit) None (Some MissLimit)
+    cond (subframe_rows_are_allowed rows subframe_rows) (
+    cond (miss_limit_is_allowed miss_limit) None (Some MissLimit)
     ) (Some SubframeRows)
     ) (Some Symbol)
     ) (Some Rows)

@@ -1,5 +1,5 @@
 // The text of the answers, line by line.
-ghost use Rattle.std.specs.Prelude.{◌≡◌, IfOk, string_bytes};
+ghost use Rattle.std.specs.Prelude.{IfOk, string_bytes};
 ghost use Rattle.sheet.specs.Answers.{AnswerTo, AnswersTo, FirstLine};
 
 use crate::line::{LineFault, quote_line};

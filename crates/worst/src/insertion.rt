@@ -1,5 +1,5 @@
 // Insertion into the list at the front of a slice.
-ghost use Rattle.std.specs.Prelude.{◌≡◌, ℕ, ◌<◌, ◌≤◌, length, take};
+ghost use Rattle.std.specs.Prelude.{◌≡◌, ◌<◌, ◌≤◌, length, take};
 ghost use Rattle.std.specs.Cmp.{IsTotalOrder};
 ghost use Rattle.worst.specs.Noted.{noted};
 ghost use Rattle.worst.specs.Place.{place, Within, put, Stands};

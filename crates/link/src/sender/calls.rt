@@ -1,5 +1,4 @@
 // What a sender does.
-ghost use Rattle.std.specs.Prelude.{◌≡◌};
 ghost use Rattle.link.specs.Sender.{Makes, Puts, Draws};
 
 use crate::drawing::{line_length, write_line_from};

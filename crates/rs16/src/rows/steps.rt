@@ -1,7 +1,7 @@
 // The steps on rows.
 ghost use Rattle.std.specs.Prelude.{◌≡◌, ◌/◌, ◌<◌, bit_xor};
 ghost use Rattle.rs16.specs.Division.{divide_step};
-ghost use Rattle.rs16.specs.Rows.{octet_at, octets_of, packed, wide, multiples, multiples_part};
+ghost use Rattle.rs16.specs.Rows.{octets_of, packed, wide, multiples, multiples_part};
 
 use crate::multiples::MULTIPLES;
 use crate::rows::Row;
