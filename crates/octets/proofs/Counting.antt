@@ -1,5 +1,6 @@
 -- Lemmas on sums and counts over the places 0, 1, .., n - 1. A run of n places from `start` on counts `count n (λ i. f (start + i))`.
 use Rattle.std.proofs.Common.{◌≡◌, ℕ, zero, suc, ◌+◌, ◌<◌, ◌≤◌, Bool, true, false, cond, not, ◌&&◌, ◌||◌, eqb, sym, refl, ap, ◌∙◌, ap₂, inl, inr, add-zero, add-suc, arith}
+use Rattle.std.proofs.Math.Bool.{and-true, and-false}
 use Rattle.std.proofs.lemmas.Bool.{eqb-true, eqb-false, ne_eqb, cases_Bool}
 use Rattle.octets.specs.Counting.{sum, count}
 
@@ -112,14 +113,6 @@ count_or (suc n) f g = omega (arith, count_suc n (λ i. f i || g i), count_suc n
 abbrev pub except : (ℕ → Bool) → ℕ → ℕ → Bool
 except f x p = f p && not (eqb p x)
 
-and_true : (b : Bool) → (b && true) ≡ b
-and_true true = refl
-and_true false = refl
-
-and_false : (b : Bool) → (b && false) ≡ false
-and_false true = refl
-and_false false = refl
-
 -- a place that passes counts for one
 pub count_except : (n : ℕ) (f : ℕ → Bool) (x : ℕ) → x < n → f x ≡ true → count n f ≡ suc (count n (except f x))
 count_except zero f x l t = absurd (omega arith)
@@ -127,13 +120,13 @@ count_except (suc n) f x l t = elim (cases_Bool (eqb n x)) [
   | inl e ↦
       let same : n ≡ x = eqb-true n x e in
       let rest : count n f ≡ count n (except f x) =
-      count_alike n f (except f x) (λ p h. rw (ne_eqb p x (λ q. omega arith)) (sym (and_true (f p)))) in
+      count_alike n f (except f x) (λ p h. rw (ne_eqb p x (λ q. omega arith)) (sym (and-true (f p)))) in
       let here : tick (f n) ≡ 1 = ap tick (ap f same ∙ t) in
-      let gone : tick (except f x n) ≡ 0 = rw e (ap tick (and_false (f n))) in
+      let gone : tick (except f x n) ≡ 0 = rw e (ap tick (and-false (f n))) in
       omega (arith, count_suc n f, count_suc n (except f x), rest, here, gone)
   | inr e ↦
       let before : x < n = omega (arith, eqb-false n x e) in
-      let last : tick (except f x n) ≡ tick (f n) = rw e (ap tick (and_true (f n))) in
+      let last : tick (except f x n) ≡ tick (f n) = rw e (ap tick (and-true (f n))) in
       omega (arith, count_suc n f, count_suc n (except f x), count_except n f x before t, last)
 ]
 

@@ -1,7 +1,7 @@
 -- A lock that is in step with the line stays so: its run of misses is a run of altered markers.
-use Rattle.std.proofs.Common.{◌≡◌, ℕ, ◌+◌, ◌*◌, ◌<◌, ◌≤◌, Bool, true, false, ◌||◌, eqb, List, [], ◌∷◌, ◌++◌, length, get_or, take, Some, None, Option, sym, refl, ap, ◌∙◌, subst, ⊎_elim, append-nil, arith}
+use Rattle.std.proofs.Common.{◌≡◌, ℕ, ◌+◌, ◌*◌, ◌<◌, ◌≤◌, true, eqb, List, [], ◌∷◌, ◌++◌, length, get_or, take, Some, None, Option, sym, refl, ap, ◌∙◌, subst, ⊎_elim, append-nil, arith}
 use Rattle.std.proofs.lemmas.Nat.{mul-le}
-use Rattle.std.proofs.lemmas.Bool.{lt-ltb, le-ltb, cases_lt, eq-eqb}
+use Rattle.std.proofs.lemmas.Bool.{or_right, lt-ltb, le-ltb, cases_lt, eq-eqb}
 use Rattle.settings.specs.declared.Settings.{Settings}
 use Rattle.settings.specs.Lengths.{subframes, subframe_data, period}
 use Rattle.settings.proofs.Ranges.{ranges}
@@ -19,17 +19,13 @@ use Rattle.promise.specs.Reception.{Reception, AlteredMarker}
 use Rattle.promise.proofs.OnLine.{MarkersSent}
 use Rattle.promise.proofs.Windows.{held_octets, SixPlaces, empty_places, places_more, held_more, seven_length, seven_held, suffix_more, intact_window, window_whole}
 
-or_true : (a f : Bool) → f ≡ true → (a || f) ≡ true
-or_true true f e = refl
-or_true false f e = e
-
 -- a block starts at count 0 ..
 pub filling_first : (lock : Lock) (misses : ℕ) → lock.count ≡ 0 → (onward lock misses).filling ≡ true
 filling_first lock misses e = rw (eq-eqb lock.count 0 e)
 
 -- .. and goes on
 filling_on : (lock : Lock) (misses : ℕ) → lock.filling ≡ true → (onward lock misses).filling ≡ true
-filling_on lock misses e = or_true (eqb lock.count 0) lock.filling e
+filling_on lock misses e = or_right (eqb lock.count 0) lock.filling e
 
 -- the marker expected has no cause of a miss
 pub no_cause : (s : Settings) (j : ℕ) (xs : List ℕ) → j < subframes s → xs ≡ marker j → first_cause j xs ≡ None

@@ -1,5 +1,6 @@
 -- Frames wait just where the octets taken end with a block's last octet and not all nexts are made: so every call is refused as the table says.
 use Rattle.std.proofs.Common.{◌≡◌, ℕ, ◌+◌, ◌-◌, ◌<◌, ◌≤◌, Bool, true, false, cond, ◌&&◌, List, [], ◌∷◌, ◌++◌, length, get_or, take, Ok, Err, Option, Result, sym, refl, ap, ◌∙◌, ⊎_elim, append-nil, arith, length-append}
+use Rattle.std.proofs.Math.Bool.{and-true}
 use Rattle.std.proofs.lemmas.List.{take_more, length-take-le}
 use Rattle.std.proofs.lemmas.Bool.{cases_lt, cases_Bool, le-ltb}
 use Rattle.settings.specs.declared.Settings.{Settings}
@@ -131,13 +132,9 @@ module _ (s : Settings) (code : CodeMeaning) (m : MappingMeaning) where
 
   -- ---- the table
 
-  fitting : (b : Bool) → (b && true) ≡ b
-  fitting true = refl
-  fitting false = refl
-
   -- of a mapping that fits, the checks of feed are the table's
   feed_by_table : (answered : ℕ) (memory : List ℕ) → mapping_fits s m ≡ true → feed_refusal s m answered memory ≡ feed_refusal_if s (frames_wait s answered) memory
-  feed_by_table answered memory fits = rw fits (rw (fitting (memory_fits s memory)) refl)
+  feed_by_table answered memory fits = rw fits (rw (and-true (memory_fits s memory)) refl)
 
   feed_answered : (calls : List ReceiverCall) (a b : ReceiverState) (memory memory' input : List ℕ) (r : Result (ℕ × Option Report) FeedFault) → mapping_fits s m ≡ true
       → frames_wait_after s calls ≡ frames_wait s a.answered → FeedStep s m a memory input r b memory' → FeedAnswered s calls a memory r b memory'

@@ -16,7 +16,7 @@ use Rattle.rs16.proofs.Chosen.{Separates, root_at, separates}
 use Rattle.rs16.specs.DualBasisLemmas.{element_octet, line_octet_add, line_octet_element, line_octet_octet}
 use Rattle.rs16.proofs.Inverses.{inverse}
 use Rattle.rs16.specs.Locators.{locator_distinct, locator_octet, locator_not_zero, mul_not_zero, pow_not_zero, weight, weight_zero}
-use Rattle.rs16.specs.PolynomialsLemmas.{add_self, add_self_left, add-zero, zero-add, mul_assoc, mul_comm, mul_one, mul-zero, zero-mul, octet_add, octet_mul, octet_pow, power_sum, weighed, apply_sum, other_root, locates}
+use Rattle.rs16.specs.PolynomialsLemmas.{length_horner, add_self, add_self_left, add-zero, zero-add, mul_assoc, mul_comm, mul_one, mul-zero, zero-mul, octet_add, octet_mul, octet_pow, power_sum, weighed, apply_sum, other_root, locates}
 use Rattle.rs16.proofs.Quotients.{Alike, evaluator_value, octet_slope}
 
 pub apply_same : (p : List ℕ) (S R : ℕ → ℕ) → ((m : ℕ) → m < length p → S m ≡ R m) → apply p S ≡ apply p R
@@ -24,11 +24,6 @@ unfolding apply
 apply_same [] S R h = refl
 apply_same (c ∷ p) S R h =
     ap₂ (λ a b. c ⊗ a ⊕ b) (h 0 (zero-lt-suc (length p))) (apply_same p (λ m. S (suc m)) (λ m. R (suc m)) (λ m l. h (suc m) (suc-le-suc l)))
-
-horner_length : (x : ℕ) (p : List ℕ) → length (horner x p) ≡ length p
-unfolding horner
-horner_length x [] = refl
-horner_length x (c ∷ p) = ap suc (horner_length x p)
 
 no_quotient : (x y : ℕ) → eval (horner x []) y ≡ 0
 unfolding horner eval
@@ -195,7 +190,7 @@ module _ (t : ℕ) (room : t + t ≤ 32) (w c q p s : List ℕ) (hw : Octets wor
   value : (k : ℕ) → eval (evaluator (drop 1 p) s) (locator k) ≡ weighed (gaps w c) (horner (locator k) (drop 1 p))
   value k =
       let g : List ℕ = horner (locator k) (drop 1 p) in
-      let size : length (horner (locator k) (drop 1 p)) < 33 = omega (arith, horner_length (locator k) (drop 1 p), length-drop 1 p) in
+      let size : length (horner (locator k) (drop 1 p)) < 33 = omega (arith, length_horner (locator k) (drop 1 p), length-drop 1 p) in
       evaluator_value (drop 1 p) s (locator k)
       ∙ apply_same g (λ m. get_or s m 0) (power_sum (gaps w c)) (λ m l. sums m (omega arith))
       ∙ apply_sum (gaps w c) g

@@ -200,7 +200,7 @@ horner_zeros x (c ∷ p) h =
     let rest : AllByRecursion (λ c. c ≡ 0) p = horner_zeros x p h.1 in
     (lowest x c p rest h.0, rest)
 
-length_horner : (x : ℕ) (p : List ℕ) → length (horner x p) ≡ length p
+pub length_horner : (x : ℕ) (p : List ℕ) → length (horner x p) ≡ length p
 unfolding horner
 length_horner x [] = refl
 length_horner x (c ∷ p) = ap suc (length_horner x p)
