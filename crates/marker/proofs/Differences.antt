@@ -1,5 +1,5 @@
 -- In how many digits seven octets differ from a marker.
-use Rattle.std.proofs.Common.{◌≡◌, ℕ, zero, suc, ◌+◌, ◌<◌, ◌≤◌, List, get_or, refl, ap, ◌∙◌, ⊎_elim, add-one, arith}
+use Rattle.std.proofs.Common.{◌≡◌, ℕ, zero, suc, ◌+◌, ◌*◌, ◌<◌, ◌≤◌, List, get_or, refl, ap, ◌∙◌, ⊎_elim, add-one, arith}
 use lib.Bits.{bit_xor, xor_self}
 use lib.Count.{ones}
 use Rattle.std.proofs.lemmas.Bool.{cases_lt}
@@ -10,11 +10,20 @@ use Rattle.octets.proofs.Octets.{octets_same}
 use Rattle.marker.specs.Marker.{marker}
 use Rattle.marker.specs.Reading.{digits_apart}
 use Rattle.marker.specs.Theorems.{MarkerLaws}
-use Rattle.marker.proofs.Digits.{same_from_xor}
+use Rattle.marker.proofs.Digits.{ones_xor, same_from_xor}
 use Rattle.marker.proofs.Markers.{marker_octets, reads_back, hit_from_cause, cause_of_hit}
 
 pub sum_more : (n : ℕ) (f : ℕ → ℕ) → sum (n + 1) f ≡ sum n f + f n
 sum_more n f = rw add-one (sum_suc n f)
+
+-- the digits apart of one octet more
+pub one_octet_more : (xs ys : List ℕ) (n digits x y : ℕ) → x ≡ get_or xs n 0 → y ≡ get_or ys n 0 → x < 256 → y < 256
+    → (digits ≡ sum n (λ i. ones (bit_xor (get_or xs i 0) (get_or ys i 0)))) × (digits ≤ 8 * n)
+    → (digits + ones (bit_xor x y) ≡ sum (n + 1) (λ i. ones (bit_xor (get_or xs i 0) (get_or ys i 0)))) × (digits + ones (bit_xor x y) ≤ 8 * (n + 1))
+one_octet_more xs ys n digits x y ex ey hx hy h =
+    let f : ℕ → ℕ = λ i. ones (bit_xor (get_or xs i 0) (get_or ys i 0)) in
+    let last : ones (bit_xor x y) ≡ f n = rw (ex, ey) refl in
+    (omega (arith, sum_more n f, h.0, last), omega (arith, ones_xor x y hx hy, h.1))
 
 -- a sum of 0 has no term that is not 0
 none_of_sum : (n : ℕ) (f : ℕ → ℕ) → sum n f ≡ 0 → (i : ℕ) → i < n → f i ≡ 0

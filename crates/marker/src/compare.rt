@@ -9,8 +9,8 @@ pub fn digits_apart(a: &[u8; 7], b: &[u8; 7]) -> usize
     ensures { result ≡ digits_apart a.now b.now }
 {
     let mut digits = 0;
-    for i in 0..7 {
-        digits += (a[i] ^ b[i]).count_ones() as usize;
+    for (x, y) in a.iter().zip(b) {
+        digits += (x ^ y).count_ones() as usize;
     }
     digits
 }

@@ -12,11 +12,10 @@ pub fn read_marker(octets: &[u8]) -> Option<Reading>
     let [first, second, third, fourth, high, middle, low] = octets else {
         return None;
     };
-    let sync_right = *first == 0x1A && *second == 0xCF && *third == 0xFC && *fourth == 0x1D;
-    let field = *high as usize * 65_536 + *middle as usize * 256 + *low as usize;
+    let field = u32::from_be_bytes([0, *high, *middle, *low]);
     Some(Reading {
-        count: field / 2,
-        sync_right,
+        count: (field / 2) as usize,
+        sync_right: [*first, *second, *third, *fourth] == [0x1A, 0xCF, 0xFC, 0x1D],
         parity_right: field.count_ones() % 2 == 0,
     })
 }

@@ -1,7 +1,7 @@
 // What seven octets say when they are read as a marker.
 
 // The count, whatever else is wrong, and what is right.
-#[derive(Clone, Copy)]
+#[derive(Clone, Copy, Debug, PartialEq, Eq)]
 pub struct Reading {
     pub count: usize,
     // the first four octets are the sync word

@@ -10,9 +10,7 @@ pub fn write_marker(count: usize) -> Option<[u8; 7]>
     if count >= 8_388_608 {
         return None;
     }
-    let field = 2 * count + (count.count_ones() % 2) as usize;
-    let high = (field / 65_536) as u8;
-    let middle = (field / 256 % 256) as u8;
-    let low = (field % 256) as u8;
+    let field = 2 * count as u32 + count.count_ones() % 2;
+    let [_, high, middle, low] = field.to_be_bytes();
     Some([0x1A, 0xCF, 0xFC, 0x1D, high, middle, low])
 }

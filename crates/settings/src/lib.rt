@@ -35,30 +35,28 @@ mod tests {
     use super::*;
     use std::test::Fail;
 
-    // The number of the refusal, or 0.
-    fn refused(
+    // The number of the refusal, if these numbers are refused.
+    fn refusal(
         depth: usize,
         rows: usize,
         symbol: usize,
         subframe_rows: usize,
         miss_limit: usize,
-    ) -> usize {
-        match Settings::new(depth, rows, symbol, subframe_rows, miss_limit) {
-            Ok(_) => 0,
-            Err(fault) => fault.number(),
-        }
+    ) -> Option<usize> {
+        let made = Settings::new(depth, rows, symbol, subframe_rows, miss_limit);
+        made.err().map(|fault| fault.number())
     }
 
     #[test]
     fn edges_of_the_ranges(rt: HostRuntime) {
-        assert_eq!(rt; refused(5, 4_096, 5, 1, 1), 0);
-        assert_eq!(rt; refused(5, 0, 5, 1, 1), 2);
-        assert_eq!(rt; refused(5, 4_097, 5, 1, 1), 2);
-        assert_eq!(rt; refused(6, 1, 1, 1, 1), 1);
-        assert_eq!(rt; refused(0, 0, 0, 0, 0), 1);
-        assert_eq!(rt; refused(8, 1, 2_041, 1, 1), 3);
-        assert_eq!(rt; refused(8, 1, 2_040, 2, 1), 4);
-        assert_eq!(rt; refused(8, 1, 2_040, 1, 256), 5);
+        assert_eq!(rt; refusal(5, 4_096, 5, 1, 1), None);
+        assert_eq!(rt; refusal(5, 0, 5, 1, 1), Some(2));
+        assert_eq!(rt; refusal(5, 4_097, 5, 1, 1), Some(2));
+        assert_eq!(rt; refusal(6, 1, 1, 1, 1), Some(1));
+        assert_eq!(rt; refusal(0, 0, 0, 0, 0), Some(1));
+        assert_eq!(rt; refusal(8, 1, 2_041, 1, 1), Some(3));
+        assert_eq!(rt; refusal(8, 1, 2_040, 2, 1), Some(4));
+        assert_eq!(rt; refusal(8, 1, 2_040, 1, 256), Some(5));
     }
 
     #[test]

@@ -19,7 +19,7 @@ impl Settings {
         if !matches!(depth, 1..=5 | 8) {
             return Err(SettingsFault::Depth);
         }
-        if rows < 1 || rows > 4096 {
+        if !(1..=4096).contains(&rows) {
             return Err(SettingsFault::Rows);
         }
         if symbol < 1 || 255 * depth % symbol != 0 {
@@ -28,7 +28,7 @@ impl Settings {
         if subframe_rows < 1 || rows % subframe_rows != 0 {
             return Err(SettingsFault::SubframeRows);
         }
-        if miss_limit < 1 || miss_limit > 255 {
+        if !(1..=255).contains(&miss_limit) {
             return Err(SettingsFault::MissLimit);
         }
         Ok(Settings {

@@ -4,7 +4,7 @@
 ghost use Rattle.watch.specs.Watched.{MarkerNoted, RowNoted};
 
 use link::{NextAnswer, Report};
-use worst::{MarkerRecord, RowRecord, WorstList, note_marker, note_row};
+use worst::{MarkerRecord, RowRecord, WorstList};
 
 #[cfg(test)]
 mod tests;
@@ -14,13 +14,10 @@ pub fn note_report(markers: &mut WorstList<'_, MarkerRecord>, report: Option<Rep
     ensures { MarkerNoted report markers.old markers.new }
 {
     if let Some(read) = report {
-        note_marker(
-            markers,
-            MarkerRecord {
-                digits: read.digits,
-                count: read.count,
-            },
-        );
+        markers.note(MarkerRecord {
+            digits: read.digits,
+            count: read.count,
+        });
     }
 }
 
@@ -28,11 +25,8 @@ pub fn note_report(markers: &mut WorstList<'_, MarkerRecord>, report: Option<Rep
 pub fn note_next(rows: &mut WorstList<'_, RowRecord>, answer: &NextAnswer)
     ensures { RowNoted answer.now rows.old rows.new }
 {
-    note_row(
-        rows,
-        RowRecord {
-            octets: answer.altered,
-            row: answer.row,
-        },
-    );
+    rows.note(RowRecord {
+        octets: answer.altered,
+        row: answer.row,
+    });
 }

@@ -1,5 +1,5 @@
 -- Pairs of numbers, compared by the first and then by the second, are totally ordered; so are rows and markers.
-use Rattle.std.proofs.Common.{◌≡◌, ℕ, Ordering, Less, Equal, sym, ap, ◌∙◌, arith}
+use Rattle.std.proofs.Common.{◌≡◌, ℕ, Ordering, Less, Equal, ap, ◌∙◌, arith}
 use Rattle.std.proofs.lemmas.Bool.Decides.{nat_tests}
 use Rattle.std.specs.Cmp.{IsTotalOrder}
 use Rattle.std.specs.Ordering.{ordering_reverse, ordering_then, nat_cmp}
@@ -53,8 +53,8 @@ lawful cmp t = record { antisymm = t.turned; trans = t.passed_on; congr = λ x y
 derived : (a b c d : ℕ) → ordering_then (nat_cmp a c) (nat_cmp b d) ≡ lexical a b c d
 derived a b c d = grind (arith, nat_tests)
 
-pub rows_derived : ◌≡◌ {A = RowRecord → RowRecord → Ordering} row_order (λ x y. ordering_then (nat_cmp x.octets y.octets) (nat_cmp x.row y.row))
-rows_derived = λ i x y. sym (derived x.octets x.row y.octets y.row) i
+pub rows_derived : ◌≡◌ {A = RowRecord → RowRecord → Ordering} (λ x y. ordering_then (nat_cmp x.octets y.octets) (nat_cmp x.row y.row)) row_order
+rows_derived = λ i x y. derived x.octets x.row y.octets y.row i
 
-pub markers_derived : ◌≡◌ {A = MarkerRecord → MarkerRecord → Ordering} marker_order (λ x y. ordering_then (nat_cmp x.digits y.digits) (nat_cmp x.count y.count))
-markers_derived = λ i x y. sym (derived x.digits x.count y.digits y.count) i
+pub markers_derived : ◌≡◌ {A = MarkerRecord → MarkerRecord → Ordering} (λ x y. ordering_then (nat_cmp x.digits y.digits) (nat_cmp x.count y.count)) marker_order
+markers_derived = λ i x y. derived x.digits x.count y.digits y.count i

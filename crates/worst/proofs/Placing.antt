@@ -1,5 +1,5 @@
 -- What the slots hold once a record is noted: no place, room, full slots, and past full slots.
-use Rattle.std.proofs.Common.{◌≡◌, ℕ, ◌+◌, ◌<◌, ◌≤◌, min, List, ◌∷◌, ◌++◌, length, take, drop, Some, None, Ordering, sym, ap, ◌∙◌, arith, rules}
+use Rattle.std.proofs.Common.{◌≡◌, ℕ, ◌+◌, ◌<◌, ◌≤◌, List, ◌∷◌, ◌++◌, length, take, drop, Some, None, Ordering, sym, ap, ◌∙◌, arith, rules}
 use Rattle.std.proofs.lemmas.List.{places, same_lists, take_all, length-take, take-append-drop, take_at}
 use Rattle.worst.specs.Noted.{noted, placed}
 use Rattle.worst.specs.Place.{place, put, Stands}
@@ -59,23 +59,9 @@ module _ {X : Type 0} (cmp : X → X → Ordering) (s : List X) (x : X) (n : ℕ
       let a : placed cmp x (take n s) ≡ take n (take n s) ++ (x ∷ drop n (take n s)) = rw hi at (placed_at i k e p) in
       rw em (stands_at _ (take n s) s s n (past_put s x n h hn ∙ ap (λ t. take (length s) t) (sym a)) (simp length-take (omega arith)) (sym (take-append-drop n s)))
 
--- a list's own length cuts it from its slots
-pub take_own_length : {X : Type 0} (s : List X) (used n : ℕ) → n ≡ length (take used s) → (n ≤ length s) × (take n s ≡ take used s)
-take_own_length s used n e =
-    let k : n ≡ min used (length s) = e ∙ length-take used s in
-    (omega arith, same_lists _ _ (simp length-take (omega arith)) (λ k d l. grind (arith, places)))
-
 -- the first `used` slots are the list that stands there
 pub stands_records : {X : Type 0} (xs before after : List X) (used : ℕ) → Stands xs before after used
     → (take used after ≡ xs) × (after ≡ take used after ++ drop (length (take used after)) before)
 stands_records xs before after used h =
     let e : take used after ≡ xs = ap (λ t. take used t) h.front ∙ take_at xs _ used (sym h.count) in
     (e, h.front ∙ ap (λ t. t ++ drop (length t) before) (sym e))
-
--- a record noted among the first n slots, where n is the list's own length, is noted in the list
-pub noted_records : {X : Type 0} (cmp : X → X → Ordering) (x : X) (before after : List X) (used n used' : ℕ) → n ≡ length (take used before)
-    → Stands (noted cmp (length before) x (take n before)) before after used'
-    → (take used' after ≡ noted cmp (length before) x (take used before)) × (after ≡ take used' after ++ drop (length (take used' after)) before)
-noted_records cmp x before after used n used' e h =
-    let stood = stands_records _ before after used' h in
-    (stood.0 ∙ ap (λ t. noted cmp (length before) x t) (take_own_length before used n e).1, stood.1)

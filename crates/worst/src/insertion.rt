@@ -1,6 +1,5 @@
 // Insertion into the list at the front of a slice.
 ghost use Rattle.std.specs.Prelude.{◌≡◌, ◌<◌, ◌≤◌, length, take};
-ghost use Rattle.std.specs.Cmp.{IsTotalOrder};
 ghost use Rattle.worst.specs.Noted.{noted};
 ghost use Rattle.worst.specs.Place.{place, Within, put, Stands};
 
@@ -9,10 +8,10 @@ use std::cmp::Ordering;
 // Where the record belongs in a list that descends, or None where an equal one is met first.
 fn find_place<T: Ord>(list: &[T], record: &T) -> Option<usize>
     ensures within { Within result (length list.now) }
-    ensures told { (o : IsTotalOrder T.Ord.cmp) → result ≡ place T.Ord.cmp 0 «record».now list.now }
+    ensures told { result ≡ place T.Ord.cmp 0 «record».now list.now }
 {
-    for i in 0..list.len() {
-        match record.cmp(&list[i]) {
+    for (i, held) in list.iter().enumerate() {
+        match record.cmp(held) {
             Ordering::Less => {}
             Ordering::Equal => return None,
             Ordering::Greater => return Some(i),
@@ -34,7 +33,7 @@ fn put_in<T: Copy>(list: &mut [T], i: usize, record: T)
 // Notes the record in the list that stands in the first n of the slots, and answers how many records there are then.
 pub(crate) fn insert<T: Ord + Copy>(slots: &mut [T], n: usize, record: T) -> usize
     requires { n ≤ length slots.old }
-    ensures { (o : IsTotalOrder T.Ord.cmp) → Stands (noted T.Ord.cmp (length slots.old) «record» (take n slots.old)) slots.old slots.new result }
+    ensures { Stands (noted T.Ord.cmp (length slots.old) «record» (take n slots.old)) slots.old slots.new result }
 {
     let Some(i) = find_place(&slots[..n], &record) else {
         return n;

@@ -1,7 +1,6 @@
 // Making a worst list, noting a record, and reading the records back.
 ghost use Rattle.std.specs.Prelude.{◌≡◌, [], length};
 ghost use Rattle.std.specs.declared.cmp.Ordering.{Ordering};
-ghost use Rattle.std.specs.Cmp.{IsTotalOrder};
 ghost use Rattle.worst.specs.List.{records_of, slots_of, Notes, KeepsWorst};
 ghost use Rattle.worst.specs.Worst.{WorstOf};
 
@@ -23,15 +22,14 @@ impl<'a, T> WorstList<'a, T> {
     pub fn len(&self) -> usize
         ensures { result ≡ length (records_of self.now) }
     {
-        self.used.min(self.slots.len())
+        self.used
     }
 
     // The records, greatest first.
     pub fn records(&self) -> &[T]
         ensures { result.now ≡ records_of self.now }
     {
-        let n = self.len();
-        &self.slots[..n]
+        &self.slots[..self.used]
     }
 }
 
@@ -39,12 +37,11 @@ impl<T: Ord + Copy> WorstList<'_, T> {
     // Puts the record in its place; the last goes where the slots are full. An equal record that is there leaves all as it is.
     // So a list that held the worst of some records holds the worst of these and the one noted. The slots stay those that were lent.
     pub fn note(&mut self, record: T)
-        ensures told { (o : IsTotalOrder T.Ord.cmp) → Notes T.Ord.cmp «record» self.old self.new }
-        ensures worst { (o : IsTotalOrder T.Ord.cmp) → KeepsWorst T.Ord.cmp «record» self.old self.new }
+        ensures told { Notes T.Ord.cmp «record» self.old self.new }
+        ensures worst { KeepsWorst T.Ord.cmp «record» self.old self.new }
         ensures size { length (slots_of self.new) ≡ length (slots_of self.old) }
         ensures lent { self.new.slots.ghost_name ≡ self.old.slots.ghost_name }
     {
-        let n = self.len();
-        self.used = insert(self.slots, n, record);
+        self.used = insert(self.slots, self.used, record);
     }
 }

@@ -13,7 +13,7 @@ fn marker(digits: usize, count: usize) -> MarkerRecord {
 fn rows_give(slots: &mut [RowRecord], rows: &[RowRecord], want: &[RowRecord]) -> bool {
     let mut list = WorstList::over(slots);
     for r in rows {
-        note_row(&mut list, *r);
+        list.note(*r);
     }
     list.len() == want.len() && list.records() == want
 }
@@ -61,9 +61,9 @@ fn the_order_of_noting_is_of_no_account(rt: HostRuntime) {
 fn markers_by_digits_then_count(rt: HostRuntime) {
     let mut slots = [marker(0, 0); 4];
     let mut list = WorstList::over(&mut slots);
-    note_marker(&mut list, marker(2, 9));
-    note_marker(&mut list, marker(10, 0));
-    note_marker(&mut list, marker(2, 10));
+    list.note(marker(2, 9));
+    list.note(marker(10, 0));
+    list.note(marker(2, 10));
     let worst = [marker(10, 0), marker(2, 10), marker(2, 9)];
     assert!(rt; list.records() == worst.as_slice());
 }
