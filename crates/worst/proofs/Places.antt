@@ -1,7 +1,7 @@
 -- The place that a search from the front finds, and the list with a record put there.
-use Rattle.std.proofs.Common.{◌≡◌, ℕ, suc, ◌+◌, ◌-◌, ◌<◌, List, [], ◌∷◌, ◌++◌, length, get_or, take, drop, set, Some, None, Option, Ordering, Less, Equal, Greater, sym, refl, ap, ◌∙◌, arith}
+use Rattle.std.proofs.Common.{◌≡◌, ℕ, suc, ◌+◌, ◌-◌, ◌<◌, List, [], ◌∷◌, ◌++◌, length, get_or, take, drop, set, Some, None, Option, Ordering, Less, Equal, Greater, refl, ap, ◌∙◌, arith}
 use borrow.Rule.Slice.PartMut.{put_mid}
-use Rattle.std.proofs.lemmas.List.{take-take, drop_more, drop_all, at_drop_more, set_at, length-take-le, length-drop, length-take, append-nil}
+use Rattle.std.proofs.lemmas.List.{take-take, drop_more, drop_all, set_at, length-take-le, length-drop, length-take, append-nil}
 use Rattle.worst.specs.Noted.{placed}
 use Rattle.worst.specs.Place.{place, put}
 
@@ -13,14 +13,6 @@ module _ {X : Type 0} (cmp : X → X → Ordering) where
   -- the list, by the answer at the first record
   abbrev pub placed_by : X → X → List X → Ordering → List X
   placed_by x y ys o = elim o [ Less ↦ y ∷ placed cmp x ys | Equal ↦ y ∷ ys | Greater ↦ x ∷ y ∷ ys ]
-
-  -- one record on
-  pub place_step : (n : ℕ) (x : X) (xs : List X) (i : ℕ) (y : X) (o : Ordering) → i < length xs → y ≡ get_or xs i y → o ≡ cmp x y
-      → place cmp n x (drop i xs) ≡ onward n x (drop (i + 1) xs) o
-  place_step n x xs i y o h e p =
-      at_drop_more (place cmp n x) xs i y h
-      ∙ ap (λ z. onward n x (drop (i + 1) xs) (cmp x z)) (sym e)
-      ∙ ap (λ q. onward n x (drop (i + 1) xs) q) (sym p)
 
   -- with no place, the list is as it was
   pub placed_none : (n : ℕ) (x : X) (ys : List X) → place cmp n x ys ≡ None → placed cmp x ys ≡ ys
