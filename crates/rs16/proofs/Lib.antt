@@ -13,3 +13,5 @@ pub mod Deciding
 pub mod Correcting
 pub mod Sums
 pub mod Products
+pub mod Folds
+pub mod Made
