@@ -1,5 +1,5 @@
 -- Corrections: what a word holds once they are made, how many octets they alter, and the steps of the loop that finds them.
-use Rattle.std.proofs.Common.{◌≡◌, ℕ, zero, suc, ◌+◌, ◌-◌, ◌<◌, ◌≤◌, Bool, true, false, cond, not, ◌&&◌, eqb, List, [], ◌∷◌, ◌++◌, length, get_or, set, sym, refl, ap, ◌∙◌, subst, ap₂, inl, inr, le_of_suc-le-suc, suc-le-suc, not-suc-le-zero, zero-add, arith}
+use Rattle.std.proofs.Common.{◌≡◌, ℕ, zero, suc, ◌+◌, ◌-◌, ◌<◌, ◌≤◌, Bool, true, false, cond, not, ◌&&◌, eqb, List, [], ◌∷◌, ◌++◌, length, get_or, set, sym, refl, ap, ◌∙◌, subst, inl, inr, le_of_suc-le-suc, suc-le-suc, not-suc-le-zero, zero-add, arith}
 use Rattle.std.specs.List.{All, AllPairs}
 use Rattle.std.proofs.lemmas.List.{ext_get_or, length-set, length-append, get_or-set_same, get_or-set_other}
 use Rattle.std.proofs.lemmas.List.Elements.{All-head, All-push, All-tail}
@@ -114,15 +114,6 @@ module _ (test : ℕ → Bool) (p o w : List ℕ) where
     pub other : All (λ c. ¬ (c.octet ≡ get_or w c.place 0)) cs
     pub done : (k : ℕ) → k < j → get_or (corrected cs w) k 0 ≡ get_or (changed test p o w) k 0
 
-  pub finding_none : Finding 0 []
-  finding_none = record {
-    room = omega arith;
-    before = λ k d l. absurd (not-suc-le-zero l);
-    rising = λ i k d l u. absurd (not-suc-le-zero u);
-    other = λ k d l. absurd (not-suc-le-zero l);
-    done = λ k l. absurd (not-suc-le-zero l);
-  }
-
   module _ (size : length w ≡ word_length) (j : ℕ) (cs : List Correction) (lj : j < 255) (h : Finding j cs) where
     power : length w - (j + 1) ≡ 254 - j
     power = omega arith
@@ -163,10 +154,6 @@ module _ (test : ℕ → Bool) (p o w : List ℕ) where
         let up : 255 - j ≡ (254 - j) + 1 = omega arith in
         let down : 254 - j ≡ 255 - (j + 1) = omega arith in
         ap (λ k. length (chosen test k)) up ∙ ap length (chosen_yes test (254 - j) e) ∙ ap (λ k. suc (length (chosen test k))) down
-
-    -- there is room for one correction more
-    pub room_left : length (chosen test word_length) ≤ 32 → test (254 - j) ≡ true → length cs < 32
-    room_left few e = omega (arith, h.room, one_fewer e)
 
     module _ (yes : test (254 - j) ≡ true) (c : Correction) (x : ℕ) (here : c.place ≡ j) (is : x ≡ change p o (254 - j)) (some : ¬ (x ≡ 0))
         (holds : c.octet ≡ get_or w j 0 ⊕ x) where

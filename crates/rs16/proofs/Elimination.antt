@@ -1,5 +1,5 @@
 -- The elimination's steps, for any bound t: rows of t + 1 coefficients, and windows of the syndromes.
-use Rattle.std.proofs.Common.{◌≡◌, ℕ, zero, suc, ◌+◌, ◌-◌, ◌<◌, ◌≤◌, true, false, cond, List, [], ◌∷◌, length, get_or, set, replicate, take, drop, Some, None, Option, IfSome, is_some, count_by, sym, refl, ap, ◌∙◌, subst, ap₂, inl, inr, suc-le-suc, zero-lt-suc, suc-ne-zero, arith}
+use Rattle.std.proofs.Common.{◌≡◌, ℕ, zero, suc, ◌+◌, ◌-◌, ◌<◌, ◌≤◌, cond, List, [], ◌∷◌, length, get_or, set, replicate, take, drop, Some, None, Option, IfSome, is_some, count_by, sym, refl, ap, ◌∙◌, subst, ap₂, inl, inr, suc-le-suc, zero-lt-suc, suc-ne-zero, arith}
 use mathlib.Core.Path.{fun_ext}
 use native.Mathlib.Nat.{suc_inj}
 use Rattle.std.specs.List.{AllByRecursion}

@@ -1,5 +1,5 @@
 -- What the folds of the code come to: Horner's rule from the highest coefficient down, and sums of products.
-use Rattle.std.proofs.Common.{◌≡◌, ℕ, suc, ◌≤◌, ◌⊎◌, inl, inr, List, [], ◌∷◌, ◌++◌, length, reverse, slice_index, sym, refl, ap, ap₂, subst, ◌∙◌, append_assoc, append-nil, le_of_suc-le-suc, suc-ne-zero, arith}
+use Rattle.std.proofs.Common.{◌≡◌, ℕ, ◌≤◌, ◌⊎◌, inl, inr, List, [], ◌∷◌, ◌++◌, length, reverse, slice_index, sym, refl, ap, ap₂, subst, ◌∙◌, append_assoc, append-nil, le_of_suc-le-suc, suc-ne-zero, arith}
 use Rattle.std.specs.List.{fold}
 use Rattle.std.proofs.lemmas.List.{reverse-append}
 use Rattle.std.proofs.lemmas.List.Sums.{fold-append}

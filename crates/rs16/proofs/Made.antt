@@ -1,5 +1,5 @@
 -- Arrays made by `array::from_fn`, of a closure that leaves what it captured as it was and gives h of each index.
-use Rattle.std.proofs.Common.{◌≡◌, ℕ, zero, suc, ◌+◌, ◌<◌, ◌≤◌, List, length, get_or, sym, ap, ◌∙◌, subst, inl, inr, arith}
+use Rattle.std.proofs.Common.{◌≡◌, ℕ, zero, suc, ◌+◌, ◌<◌, ◌≤◌, List, get_or, sym, ◌∙◌, subst, inl, inr, arith}
 use Rattle.std.proofs.lemmas.Bool.{cases_eq}
 use Rattle.std.proofs.lemmas.List.FromFn.{fill_by_all}
 use Rattle.std.specs.Array.{IsFromFnResult, IsFromFnResultFrom}
@@ -20,7 +20,6 @@ module _ {F B : Type 0} (g : Mut F (ℕ × Unit {0}) B) (h : ℕ → B) (f : F) 
 
   pub made_at : IsFromFnResult g f ys n → (k : ℕ) → k < n → get_or ys k d ≡ h k
   made_at made k l = from n 0 (omega arith) made.each k (omega arith) (omega arith)
-
 
 -- the same, of the whole array
 pub tabulated : {F : Type 0} (g : Mut F (ℕ × Unit {0}) ℕ) (h : ℕ → ℕ) (f : F) (ys : List ℕ) (n : ℕ)

@@ -1,5 +1,5 @@
 -- Octets of a wide number: what a move by eight digits and a sum modulo 2 make of them.
-use Rattle.std.proofs.Common.{◌≡◌, ℕ, zero, suc, ◌+◌, ◌*◌, ◌/◌, ◌%◌, ◌^◌, ◌<◌, ◌≤◌, List, [], ◌∷◌, ◌++◌, map, length, get_or, sym, ap, ◌∙◌, ap₂, inl, inr, refl, add-one, add-zero, zero-add, arith, w64}
+use Rattle.std.proofs.Common.{◌≡◌, ℕ, zero, suc, ◌+◌, ◌*◌, ◌/◌, ◌%◌, ◌^◌, ◌<◌, ◌≤◌, List, [], ◌∷◌, ◌++◌, map, get_or, sym, ap, ◌∙◌, ap₂, inl, inr, refl, add-one, add-zero, zero-add, arith, w64}
 use Rattle.std.specs.Int.{to_le_bytes}
 use lib.Bits.{bit_xor, bit_or, bit_and}
 use Rattle.std.specs.List.{range_with_len}

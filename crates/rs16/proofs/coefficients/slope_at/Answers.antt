@@ -6,10 +6,10 @@ use Rattle.rs16.proofs.coefficients.slope_at.Goals as goal
 pub loop-c-init : goal.loop-c-init
 loop-c-init c =
     slope_none (drop 1 c.args.p.now) c.into_iter-c-iterator.result.iter.rest.now c.args.x (
-      let size : length c.args.p.now ≡ 17 = search rules in
-      let part : c.iter.result.rest.now ≡ take 16 (drop 1 c.args.p.now) = c.iter.ensures.rest in
-      let left : c.into_iter-c-iterator.result.iter.rest.now ≡ c.iter.result.rest.now = search rules in
-      left ∙ part ∙ take_all 16 (drop 1 c.args.p.now) (omega (arith, length-drop 1 c.args.p.now)))
+    let size : length c.args.p.now ≡ 17 = search rules in
+    let part : c.iter.result.rest.now ≡ take 16 (drop 1 c.args.p.now) = c.iter.ensures.rest in
+    let left : c.into_iter-c-iterator.result.iter.rest.now ≡ c.iter.result.rest.now = search rules in
+    left ∙ part ∙ take_all 16 (drop 1 c.args.p.now) (omega (arith, length-drop 1 c.args.p.now)))
 
 pub loop-c-preserved : goal.loop-c-preserved
 loop-c-preserved c =

@@ -1,4 +1,4 @@
-use Rattle.std.proofs.Common.{ℕ, ◌+◌, List, ◌≡◌, length, get_or, slice_index, take, ap, ◌∙◌, rules}
+use Rattle.std.proofs.Common.{ℕ, ◌+◌, List, get_or, slice_index, ap, ◌∙◌, rules}
 use Rattle.rs16.specs.Field.{◌⊕◌}
 use Rattle.rs16.proofs.Made.{made_at}
 use Rattle.rs16.proofs.Residues.{residue_all}

@@ -9,6 +9,6 @@ pub returns : goal.returns
 returns c = (
   c.from_fn.ensures.items.long,
   λ k l.
-  made_at _ (λ i. eval c.args.p.now (pow alpha (11 * i % 255))) _ c.from_fn.result 255 0 (λ i y q l called. search rules) c.from_fn.ensures.items k l
-  ∙ ap (eval c.args.p.now) (locator_power k),
+      made_at _ (λ i. eval c.args.p.now (pow alpha (11 * i % 255))) _ c.from_fn.result 255 0 (λ i y q l called. search rules) c.from_fn.ensures.items k l
+      ∙ ap (eval c.args.p.now) (locator_power k),
 )

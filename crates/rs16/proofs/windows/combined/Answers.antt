@@ -1,4 +1,4 @@
-use Rattle.std.proofs.Common.{ℕ, ap, ◌∙◌, slice_index, rules}
+use Rattle.std.proofs.Common.{ap, ◌∙◌, slice_index, rules}
 use Rattle.rs16.specs.Field.{◌⊕◌, ◌⊗◌, pow, alpha}
 use Rattle.rs16.specs.PolynomialsLemmas.{mul_comm}
 use Rattle.rs16.proofs.Made.{made_at}

@@ -1,4 +1,4 @@
-use Rattle.std.proofs.Common.{◌≡◌, ℕ, ◌+◌, ◌-◌, ◌<◌, List, length, take, drop, slice_index, IfSome, sym, ◌∙◌, subst, arith, rules}
+use Rattle.std.proofs.Common.{◌≡◌, ℕ, ◌+◌, List, length, slice_index, IfSome, sym, ◌∙◌, subst, arith, rules}
 use Rattle.rs16.specs.Elimination.{Pivot}
 use Rattle.rs16.specs.Mending.{Monic, Cleared}
 use Rattle.rs16.specs.Polynomials.{apply}

@@ -1,4 +1,4 @@
-use Rattle.std.proofs.Common.{◌≡◌, List, ℕ, refl, subst, arith, rules}
+use Rattle.std.proofs.Common.{◌≡◌, ℕ, refl, subst, arith, rules}
 use Rattle.octets.proofs.Words.{keeps_self}
 use Rattle.rs16.proofs.Woven.{Stored, stored_more, stored_all}
 use Rattle.rs16.proofs.weaving.Woven.store_checks.Goals as goal
