@@ -1,5 +1,5 @@
 -- What a code is: its meaning, and the laws that each meaning keeps.
-use Rattle.std.specs.Prelude.{◌≡◌, ℕ, ◌+◌, ◌*◌, ◌<◌, ◌≤◌, List, take, ◌≢◌}
+use Rattle.std.specs.Prelude.{◌≡◌, ℕ, ◌+◌, ◌*◌, ◌<◌, ◌≤◌, List, take, ◌≢◌, ◌↔◌}
 use Rattle.octets.specs.Octets.{Octets, altered}
 use Rattle.octets.specs.Words.{word_length, max_reach}
 
@@ -8,6 +8,12 @@ pub record CodeMeaning : Type 1 where
   pub information : ℕ
   pub reach : ℕ
   pub Codeword : List ℕ → Type 0
+
+-- Two meanings say the same: as many information octets, the same reach, and the same codewords.
+pub record SameMeaning (a b : CodeMeaning) : Type 0 where
+  pub information : a.information ≡ b.information
+  pub reach : a.reach ≡ b.reach
+  pub codewords : (word : List ℕ) → a.Codeword word ↔ b.Codeword word
 
 -- These octets begin one codeword, and no other.
 pub record BeginOne (code : CodeMeaning) (octets : List ℕ) : Type 0 where

@@ -10,7 +10,7 @@ mod bare;
 mod fault;
 mod shape;
 
-pub use bare::{Bare, bare_information, bare_reach, encode_bare, mend_bare};
+pub use bare::{Bare, bare_means_bare};
 pub use fault::{MendFault, ShapeFault};
 pub use shape::check_shape;
 

@@ -4,13 +4,14 @@
 
 ghost use Rattle.exports.specs.Numbers.{EncodesByNumber, MendsByNumber};
 
-use rs16::{encode_rs16, mend_rs16};
+use code::Code;
+use rs16::Rs16;
 
 // Encodes a word of the row; 0, or the number of the refusal: 1 or 8.
 pub fn rs16_encode_word(row: &mut [u8], depth: usize, word: usize) -> usize
     ensures { EncodesByNumber depth word row.old result row.new }
 {
-    match encode_rs16(row, depth, word) {
+    match Rs16.encode(row, depth, word) {
         Ok(()) => 0,
         Err(fault) => fault.number(),
     }
@@ -20,7 +21,7 @@ pub fn rs16_encode_word(row: &mut [u8], depth: usize, word: usize) -> usize
 pub fn rs16_mend_word(row: &mut [u8], depth: usize, word: usize) -> usize
     ensures { MendsByNumber depth word row.old result row.new }
 {
-    match mend_rs16(row, depth, word) {
+    match Rs16.mend(row, depth, word) {
         Ok(altered) => altered,
         Err(fault) => 100 + fault.number(),
     }

@@ -1,5 +1,5 @@
 -- A row whose word was completed by its check octets is encoded; one whose word was corrected is mended.
-use Rattle.std.proofs.Common.{◌≡◌, ℕ, ◌<◌, List, ◌++◌, get_or, take, sym, ap, ◌∙◌, subst, le_refl, arith}
+use Rattle.std.proofs.Common.{◌≡◌, ℕ, ◌<◌, List, ◌++◌, length, get_or, take, sym, ap, ◌∙◌, subst, arith}
 use Rattle.octets.specs.Octets.{Octets, altered}
 use Rattle.octets.specs.Words.{word_length, word_of, KeepsOthers}
 use Rattle.octets.proofs.Octets.{octets_take}
@@ -9,6 +9,7 @@ use Rattle.code.specs.Meaning.{Reached}
 use Rattle.rs16.specs.Codewords.{Codeword, rs16}
 use Rattle.rs16.specs.Division.{checks}
 use Rattle.rs16.specs.Mending.{corrected, Corrects}
+use Rattle.rs16.specs.declared.corrections.Correction.{Correction}
 use Rattle.rs16.proofs.Correcting.{counted}
 use Rattle.rs16.specs.Remainders.{completed, completed_codeword, completed_begins}
 
@@ -25,14 +26,14 @@ encoded depth w before after r octets is-checks is_IsWord others =
       keeps = others;
     }
 
-pub mended : (depth w : ℕ) (before after word ps os : List ℕ) (count : ℕ) → word ≡ word_of depth w before → Corrects word count ps os
-    → Reached rs16 word (corrected count ps os word) → word_of depth w after ≡ corrected count ps os (word_of depth w before)
-    → KeepsOthers depth w before after → Mended rs16 depth w count before after
-mended depth w before after word ps os count is corrects reached is_IsWord others =
+pub mended : (depth w : ℕ) (before after word : List ℕ) (found : List Correction) → word ≡ word_of depth w before → Corrects word found
+    → Reached rs16 word (corrected found word) → word_of depth w after ≡ corrected found (word_of depth w before)
+    → KeepsOthers depth w before after → Mended rs16 depth w (length found) before after
+mended depth w before after word found is corrects reached is_IsWord others =
     let old : List ℕ = word_of depth w before in
-    let right : Corrects (word_of depth w before) count ps os = subst (λ v. Corrects v count ps os) is corrects in
+    let right : Corrects (word_of depth w before) found = subst (λ v. Corrects v found) is corrects in
     record {
-      reached = subst (Reached rs16 old) (sym is_IsWord) (subst (λ v. Reached rs16 v (corrected count ps os v)) is reached);
-      counted = sym (ap (altered word_length old) is_IsWord ∙ counted old ps os count (word_size depth w before) right count (le_refl count));
+      reached = subst (Reached rs16 old) (sym is_IsWord) (subst (λ v. Reached rs16 v (corrected found v)) is reached);
+      counted = sym (ap (altered word_length old) is_IsWord ∙ counted old found (word_size depth w before) right);
       keeps = others;
     }

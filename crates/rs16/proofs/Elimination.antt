@@ -1,16 +1,18 @@
 -- The elimination's steps, for any bound t: rows of t + 1 coefficients, and windows of the syndromes.
-use Rattle.std.proofs.Common.{◌≡◌, ℕ, zero, suc, ◌+◌, ◌*◌, ◌<◌, ◌≤◌, List, [], ◌∷◌, length, get_or, set, replicate, sum, sym, refl, ap, ◌∙◌, subst, ap₂, inl, inr, suc-le-suc, zero-lt-suc, suc-ne-zero, arith}
+use Rattle.std.proofs.Common.{◌≡◌, ℕ, zero, suc, ◌+◌, ◌-◌, ◌<◌, ◌≤◌, cond, List, [], ◌∷◌, length, get_or, set, replicate, take, drop, Some, None, Option, IfSome, is_some, count_by, sym, refl, ap, ◌∙◌, subst, ap₂, inl, inr, suc-le-suc, zero-lt-suc, suc-ne-zero, arith}
+use mathlib.Core.Path.{fun_ext}
 use native.Mathlib.Nat.{suc_inj}
 use Rattle.std.specs.List.{AllByRecursion}
-use Rattle.std.proofs.ByRecursion.{All-from_get_or, sum_by_le}
-use Rattle.std.proofs.lemmas.List.{get_or_past, get_or-replicate, get_or-set_same, get_or-set_other, length-set, length-replicate}
+use Rattle.std.proofs.lemmas.List.{get_or_past, get_or-drop, get_or-replicate, get_or-set_same, get_or-set_other, length-set, length-drop, length-replicate, take_all}
+use Rattle.std.proofs.lemmas.Option.{IfSome_then}
 use Rattle.std.proofs.lemmas.List.Sums.{sum_by-set}
 use Rattle.std.proofs.lemmas.Bool.{cases_lt, cases_eq}
 use Rattle.rs16.specs.Field.{◌⊕◌, ◌⊗◌, IsOctet, inv}
 use Rattle.rs16.specs.Polynomials.{apply}
-use Rattle.rs16.specs.Mending.{Cleared, Monic, Pivot, Pivots, Solution}
+use Rattle.rs16.specs.Elimination.{Pivot, Pivots, pivot_at}
+use Rattle.rs16.specs.Mending.{Cleared, Monic, Solution}
 use Rattle.rs16.proofs.Inverses.{inverse}
-use Rattle.rs16.specs.PolynomialsLemmas.{ring, add_self, mul_assoc, mul_comm, mul_add, mul-zero, mul_one, octet_add, octet_mul, octet_zero, octet_one}
+use Rattle.rs16.specs.PolynomialsLemmas.{ring, add_self, mul_assoc, mul_comm, mul_add, mul-zero, mul_one, octet_add, octet_mul, octet_zero, octet_one, zero-mul}
 
 pub apply_scaled : (a r : List ℕ) (f : ℕ) (S : ℕ → ℕ) → length a ≡ length r
     → ((k : ℕ) → k < length a → get_or a k 0 ≡ f ⊗ get_or r k 0) → apply a S ≡ f ⊗ apply r S
@@ -37,6 +39,24 @@ apply_combined (z ∷ a) (x ∷ r) (y ∷ q) f S l m h =
     ap₂ (λ u t. u ⊗ S 0 ⊕ t) (h 0 (zero-lt-suc (length a)))
     (apply_combined a r q f (λ m. S (suc m)) (suc_inj l) (suc_inj m) (λ k lk. h (suc k) (suc-le-suc lk)))
     ∙ regroup x y f (S 0) (apply r (λ m. S (suc m))) (apply q (λ m. S (suc m)))
+
+-- coefficients that are 0 from place n on add nothing, and a window is what the syndromes hold from its place on
+apply_zeros : (p : List ℕ) (S : ℕ → ℕ) → ((k : ℕ) → get_or p k 0 ≡ 0) → apply p S ≡ 0
+unfolding apply
+apply_zeros [] S h = refl
+apply_zeros (c ∷ p) S h = ap₂ (λ a b. a ⊗ S 0 ⊕ b) (h 0) (apply_zeros p (λ m. S (suc m)) (λ k. h (suc k))) ∙ ap (λ z. z ⊕ 0) (zero-mul (S 0))
+
+apply_front : (p : List ℕ) (n : ℕ) (S : ℕ → ℕ) → ((k : ℕ) → n ≤ k → get_or p k 0 ≡ 0) → apply (take n p) S ≡ apply p S
+unfolding apply
+apply_front p zero S h = sym (apply_zeros p S (λ k. h k (omega arith)))
+apply_front [] (suc n) S h = refl
+apply_front (c ∷ p) (suc n) S h = ap (λ z. c ⊗ S 0 ⊕ z) (apply_front p n (λ m. S (suc m)) (λ k l. h (suc k) (suc-le-suc l)))
+
+pub on_window : (p s : List ℕ) (n g : ℕ) → length s ≡ 32 → ((k : ℕ) → n ≤ k → get_or p k 0 ≡ 0)
+    → apply (take n p) (λ m. get_or (take (32 - g) (drop g s)) m 0) ≡ apply p (λ m. get_or s (g + m) 0)
+on_window p s n g size zeros =
+    ap (λ w. apply (take n p) (λ m. get_or w m 0)) (take_all (32 - g) (drop g s) (omega (arith, length-drop g s)))
+    ∙ apply_front p n (λ m. get_or (drop g s) m 0) zeros ∙ ap (apply p) (fun_ext (λ m. get_or-drop g s m 0))
 
 -- below h + 1: below h, or h
 pub cleared_more : (s r : List ℕ) (h : ℕ) → Cleared s r h → apply r (λ m. get_or s (h + m) 0) ≡ 0 → Cleared s r (h + 1)
@@ -112,28 +132,22 @@ module _ (t : ℕ) where
   older : (s q : List ℕ) (n h : ℕ) → Pivot t s n h q → Pivot t s (n + 1) h q
   older s q n h p = record { size = p.size; cleared = p.cleared; one = p.one; above = λ k l. p.above k (omega arith) }
 
-  pub pivots_more : (s has : List ℕ) (rows : List (List ℕ)) (q : List ℕ) (n h : ℕ) → h < t → length has ≡ t → length rows ≡ t
-      → Pivots t s n has rows → Pivot t s (n + 1) h q → Pivots t s (n + 1) (set has h 1) (set rows h q)
-  pivots_more s has rows q n h lh l1 l2 ps p g lg e = elim (cases_eq g h) [
-    | inl same ↦ subst (λ z. Pivot t s (n + 1) z (get_or (set rows h q) z [])) (sym same)
-        (subst (Pivot t s (n + 1) h) (sym (get_or-set_same rows h q [] (omega arith))) p)
-    | inr d ↦ subst (Pivot t s (n + 1) g) (sym (get_or-set_other rows h g q [] d))
-        (older s (get_or rows g []) n g (ps g lg (sym (get_or-set_other has h g 1 0 d) ∙ e)))
+  pub pivots_more : (s : List ℕ) (pivots : List (Option (List ℕ))) (q : List ℕ) (n h : ℕ) → h < t → length pivots ≡ t
+      → Pivots t s n pivots → Pivot t s (n + 1) h q → Pivots t s (n + 1) (set pivots h (Some q))
+  pivots_more s pivots q n h lh size ps p g lg = elim (cases_eq g h) [
+    | inl same ↦ subst (λ z. IfSome (pivot_at (set pivots h (Some q)) z) (Pivot t s (n + 1) z)) (sym same)
+        (subst (λ o. IfSome o (Pivot t s (n + 1) h)) (sym (get_or-set_same pivots h (Some q) None (omega arith))) p)
+    | inr other ↦ subst (λ o. IfSome o (Pivot t s (n + 1) g)) (sym (get_or-set_other pivots h g (Some q) None other))
+        (IfSome_then (pivot_at pivots g) (ps g lg) (λ r older_r. older s r n g older_r))
   ]
 
-  pub flags_more : (has : List ℕ) (h : ℕ) → h < t → length has ≡ t → ((k : ℕ) → k < t → get_or has k 0 ≤ 1) → (k : ℕ) → k < t → get_or (set has h 1) k 0 ≤ 1
-  flags_more has h lh l f k lk = elim (cases_eq k h) [
-    | inl e ↦ subst (λ z. get_or (set has h 1) z 0 ≤ 1) (sym e) (let q : get_or (set has h 1) h 0 ≡ 1 = get_or-set_same has h 1 0 (omega arith) in omega arith)
-    | inr d ↦ subst (λ z. z ≤ 1) (sym (get_or-set_other has h k 1 0 d)) (f k lk)
-  ]
-
-  pub count_more : (has : List ℕ) (h n : ℕ) → h < length has → get_or has h 0 ≡ 0 → sum has ≡ n → sum (set has h 1) ≡ n + 1
-  count_more has h n l e q =
-      let t : sum (set has h 1) + get_or has h 0 ≡ sum has + 1 = sum_by-set (λ x. x) has h 1 0 l in omega arith
-
-  pub count_most : (has : List ℕ) → length has ≡ t → ((k : ℕ) → k < t → get_or has k 0 ≤ 1) → sum has ≤ t
-  count_most has l f =
-      let t : sum has ≤ length has * 1 = sum_by_le (λ x. x) 1 has (All-from_get_or (λ x. x ≤ 1) has 0 (λ i li. f i (subst (λ z. i < z) l li))) in
+  -- ---- how many pivots there are
+  pub count_more : (pivots : List (Option (List ℕ))) (q : List ℕ) (h n : ℕ) → h < length pivots → pivot_at pivots h ≡ None → count_by is_some pivots ≡ n
+      → count_by is_some (set pivots h (Some q)) ≡ n + 1
+  count_more pivots q h n l free e =
+      let one : count_by is_some (set pivots h (Some q)) + 0 ≡ count_by is_some pivots + 1 =
+      subst (λ o. count_by is_some (set pivots h (Some q)) + cond (is_some o) 1 0 ≡ count_by is_some pivots + 1) free
+      (sum_by-set (λ o. cond (is_some o) 1 0) pivots h (Some q) None l) in
       omega arith
 
   -- ---- the answer

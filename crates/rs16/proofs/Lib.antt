@@ -11,5 +11,6 @@ pub mod Mending
 pub mod Elimination
 pub mod Deciding
 pub mod Correcting
-pub mod Sums
 pub mod Products
+pub mod Folds
+pub mod Made

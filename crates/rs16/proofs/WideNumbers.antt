@@ -1,9 +1,10 @@
 -- Octets of a wide number: what a move by eight digits and a sum modulo 2 make of them.
-use Rattle.std.proofs.Common.{◌≡◌, ℕ, zero, suc, ◌+◌, ◌*◌, ◌/◌, ◌%◌, ◌^◌, ◌<◌, ◌≤◌, List, [], ◌∷◌, map, length, get_or, set, sym, ap, ◌∙◌, ap₂, inl, inr, add-one, arith, below_more}
+use Rattle.std.proofs.Common.{◌≡◌, ℕ, zero, suc, ◌+◌, ◌*◌, ◌/◌, ◌%◌, ◌^◌, ◌<◌, ◌≤◌, List, [], ◌∷◌, ◌++◌, map, get_or, sym, ap, ◌∙◌, ap₂, inl, inr, refl, add-one, add-zero, zero-add, arith, w64}
+use Rattle.std.specs.Int.{to_le_bytes}
 use lib.Bits.{bit_xor, bit_or, bit_and}
 use Rattle.std.specs.List.{range_with_len}
 use Rattle.std.proofs.lemmas.List.FromFn.{length-map-range_with_len, get_or-map-range_with_len}
-use Rattle.std.proofs.lemmas.List.{ext_get_or, get_or_past, length-set, get_or-set_same, get_or-set_other}
+use Rattle.std.proofs.lemmas.List.{ext_get_or, get_or_past}
 use Rattle.std.proofs.lemmas.Bool.{cases_lt}
 use Rattle.std.proofs.lemmas.Nat.{xor_shr, xor_mod, shr-shr, shr_split, or_shifted, shl_whole, mod_below, and_mask, shr_le}
 use Rattle.octets.specs.Counting.{tabulate}
@@ -100,15 +101,50 @@ wide_divided o n next h is =
     ∙ ap (λ x. multiple (bit_xor x o) (get_or generator k 0)) (sym (listed n 0 h (omega arith))))
     ∙ sym (divide_step_at o r k low))
 
--- ---- octets taken off a wide number one by one
+-- ---- the octets of four numbers, one behind the other
 
-pub unpack_more : (octets : List ℕ) (n rest next k v : ℕ) → length octets ≡ 32 → k < 32 → rest ≡ n / 2 ^ (8 * k) → ((j : ℕ) → j < k → get_or octets j 0 ≡ octet_at n j)
-    → v ≡ rest % 256 → next ≡ rest / 256
-    → (length (set octets k v) ≡ 32) × (next ≡ n / 2 ^ (8 * (k + 1))) × ((j : ℕ) → j < k + 1 → get_or (set octets k v) j 0 ≡ octet_at n j)
-unpack_more octets n rest next k v size low is before here on =
-    let up : 8 * k + 8 ≡ 8 * (k + 1) = omega arith in (
-      length-set octets k v ∙ size,
-      on ∙ (ap (λ m. m / 256) is ∙ (shr-shr n (8 * k) 8 ∙ ap (λ e. n / 2 ^ e) up)),
-      below_more _ _ (λ j l. get_or-set_other octets k j v 0 (λ e. omega arith) ∙ before j l)
-          (get_or-set_same octets k v 0 (omega arith) ∙ (here ∙ ap (λ m. m % 256) is)),
-    )
+-- octets of the low number
+low_octet : (a X k : ℕ) → k < 8 → octet_at a k ≡ octet_at (a + 2 ^ 64 * X) k
+low_octet a X zero h = omega arith
+low_octet a X (suc zero) h = omega arith
+low_octet a X (suc (suc zero)) h = omega arith
+low_octet a X (suc (suc (suc zero))) h = omega arith
+low_octet a X (suc (suc (suc (suc zero)))) h = omega arith
+low_octet a X (suc (suc (suc (suc (suc zero))))) h = omega arith
+low_octet a X (suc (suc (suc (suc (suc (suc zero)))))) h = omega arith
+low_octet a X (suc (suc (suc (suc (suc (suc (suc zero))))))) h = omega arith
+low_octet a X (suc (suc (suc (suc (suc (suc (suc (suc k)))))))) h = absurd (omega arith)
+
+-- octets of what is above it
+high_octet : (a X k : ℕ) → a < 2 ^ 64 → octet_at X k ≡ octet_at (a + 2 ^ 64 * X) (8 + k)
+high_octet a X k h =
+    let above : (a + 2 ^ 64 * X) / 2 ^ 64 ≡ X = omega arith in
+    let up : 64 + 8 * k ≡ 8 * (8 + k) = omega arith in
+    ap (λ n. octet_at n k) (sym above) ∙ ap (λ n. n % 256) (shr-shr (a + 2 ^ 64 * X) 64 (8 * k) ∙ ap (λ e. (a + 2 ^ 64 * X) / 2 ^ e) up)
+
+-- a list made place by place, from another place on
+moved_list : (f g : ℕ → ℕ) (n i j : ℕ) → ((k : ℕ) → k < n → f (i + k) ≡ g (j + k)) → map f (range_with_len i n) ≡ map g (range_with_len j n)
+moved_list f g zero i j h = refl
+moved_list f g (suc n) i j h =
+    ap₂ (λ x xs. x ∷ xs) (ap f (sym (add-zero i)) ∙ h 0 (omega arith) ∙ ap g (add-zero j))
+    (moved_list f g n (i + 1) (j + 1) (λ k l.
+    let fi : (i + 1) + k ≡ i + (k + 1) = omega arith in
+    let gj : j + (k + 1) ≡ (j + 1) + k = omega arith in
+    ap f fi ∙ h (k + 1) (omega arith) ∙ ap g gj))
+
+pub joined_octets : (a b c d : ℕ) → a < 2 ^ 64 → b < 2 ^ 64 → c < 2 ^ 64
+    → tabulate 8 (octet_at a) ++ (tabulate 8 (octet_at b) ++ (tabulate 8 (octet_at c) ++ tabulate 8 (octet_at d)))
+    ≡ tabulate 32 (octet_at (a + 2 ^ 64 * (b + 2 ^ 64 * (c + 2 ^ 64 * d))))
+joined_octets a b c d ha hb hc =
+    let X : ℕ = b + 2 ^ 64 * (c + 2 ^ 64 * d) in
+    let Y : ℕ = c + 2 ^ 64 * d in
+    let n : ℕ = a + 2 ^ 64 * (b + 2 ^ 64 * (c + 2 ^ 64 * d)) in
+    let f : ℕ → ℕ = octet_at n in
+    ap₂ ◌++◌ (moved_list (octet_at a) f 8 0 0 (λ k l. ap (octet_at a) (zero-add k) ∙ low_octet a X k l ∙ ap f (sym (zero-add k))))
+    (ap₂ ◌++◌ (moved_list (octet_at b) f 8 0 8 (λ k l. ap (octet_at b) (zero-add k) ∙ low_octet b Y k l ∙ high_octet a X k ha))
+    (ap₂ ◌++◌ (moved_list (octet_at c) f 8 0 16 (λ k l. ap (octet_at c) (zero-add k) ∙ low_octet c d k l ∙ high_octet b Y k hb ∙ high_octet a X (8 + k) ha ∙ ap f (let e : 8 + (8 + k) ≡ 16 + k = omega arith in e)))
+    (moved_list (octet_at d) f 8 0 24 (λ k l. ap (octet_at d) (zero-add k) ∙ high_octet c d k hc ∙ high_octet b Y (8 + k) hb ∙ high_octet a X (8 + (8 + k)) ha ∙ ap f (let e : 8 + (8 + (8 + k)) ≡ 24 + k = omega arith in e)))))
+
+-- the octets of one of them, as `to_le_bytes` lists them
+pub le_octets : (n : ℕ) → to_le_bytes w64 n ≡ tabulate 8 (octet_at n)
+le_octets n = ap (λ first. first ∷ map (octet_at n) (range_with_len 1 7)) (let same : n % 256 ≡ n / 1 % 256 = omega arith in same)

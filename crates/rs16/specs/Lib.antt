@@ -7,6 +7,7 @@ pub mod Calls
 pub mod Bench
 pub mod Polynomials
 pub mod Mending
+pub mod Elimination
 pub mod Searching
 pub mod Remainders
 pub mod Below

@@ -1,10 +1,11 @@
 -- Method: how a word is mended. Octets go by their power: octet j of a word has power 254 - j.
-use Rattle.std.specs.Prelude.{◌≡◌, ℕ, zero, suc, ◌+◌, ◌<◌, ◌≤◌, Bool, cond, List, [], ◌∷◌, length, get_or, ◌==◌, slice_index, slice_index_or, slice_set}
-use Rattle.std.specs.List.{AllByRecursion}
+use Rattle.std.specs.Prelude.{◌≡◌, ℕ, zero, suc, ◌+◌, ◌<◌, ◌≤◌, Bool, cond, List, [], ◌∷◌, length, get_or, ◌==◌, slice_index, slice_set}
+use Rattle.std.specs.List.{All, AllByRecursion, AllPairs, fold}
 use Rattle.octets.specs.Words.{word_length}
 use Rattle.rs16.specs.Field.{◌⊕◌, ◌⊗◌, IsOctet, pow, alpha, inv}
 use Rattle.rs16.specs.DualBasis.{line_octet}
 use Rattle.rs16.specs.Polynomials.{eval, apply, slope}
+use Rattle.rs16.specs.declared.corrections.Correction.{Correction}
 
 -- the locator of the octet at power k
 unfoldable pub locator : ℕ → ℕ
@@ -29,25 +30,6 @@ pub record Monic (t n : ℕ) (r : List ℕ) : Type 0 where
   pub octets : (k : ℕ) → IsOctet (slice_index r k)
   pub top : get_or r n 0 ≡ 1
   pub above : (k : ℕ) → n < k → slice_index r k ≡ 0
-
--- A row of fewer than n coefficients that gives 0 on the windows before h and 1 on window h.
-pub record Pivot (t : ℕ) (s : List ℕ) (n h : ℕ) (q : List ℕ) : Type 0 where
-  pub size : length q ≡ t + 1
-  pub cleared : Cleared s q h
-  pub one : apply q (λ m. slice_index s (h + m)) ≡ 1
-  pub above : (k : ℕ) → n ≤ k → slice_index q k ≡ 0
-
--- the rows whose flag is 1 are pivots, each of its own window
-abbrev pub Pivots : ℕ → List ℕ → ℕ → List ℕ → List (List ℕ) → Type 0
-Pivots t s n has rows = (h : ℕ) → h < t → slice_index has h ≡ 1 → Pivot t s n h (slice_index_or rows h [])
-
--- A row reduced up to window h: the first that it is not 0 on and that has no pivot, or t.
-pub record Reduces (t : ℕ) (s : List ℕ) (n : ℕ) (has r : List ℕ) (h : ℕ) : Type 0 where
-  pub monic : Monic t n r
-  pub bound : h ≤ t
-  pub cleared : Cleared s r h
-  pub free : h < t → slice_index has h ≡ 0
-  pub other : h < t → ¬ (apply r (λ m. slice_index s (h + m)) ≡ 0)
 
 -- ---- what is added to the octets
 
@@ -81,15 +63,13 @@ changed test p o (x ∷ w) = cond (test (length w)) (x ⊕ change p o (length w)
 
 -- ---- corrections
 
--- the word with the first n corrections made: octet `octets i` at place `places i`
-unfoldable pub corrected : ℕ → List ℕ → List ℕ → List ℕ → List ℕ
-corrected zero places octets word = word
-corrected (suc n) places octets word = slice_set (corrected n places octets word) (slice_index places n) (slice_index octets n)
+-- the word with the corrections made
+abbrev pub corrected : List Correction → List ℕ → List ℕ
+corrected corrections word = fold (λ octets c. slice_set octets c.place c.octet) word corrections
 
--- Corrections of a word: at most 32, places rising, each once, each with an octet other than the one that arrived; zeros behind them.
-pub record Corrects (word : List ℕ) (count : ℕ) (places octets : List ℕ) : Type 0 where
-  pub few : count ≤ 32
-  pub inside : (i : ℕ) → i < count → slice_index places i < word_length
-  pub rising : (i k : ℕ) → i < k → k < count → slice_index places i < slice_index places k
-  pub other : (i : ℕ) → i < count → ¬ (slice_index octets i ≡ slice_index word (slice_index places i))
-  pub spare : (i : ℕ) → count ≤ i → (slice_index places i ≡ 0) × (slice_index octets i ≡ 0)
+-- Corrections of a word: at most 32, places rising, each once, each with an octet other than the one that arrived.
+pub record Corrects (word : List ℕ) (corrections : List Correction) : Type 0 where
+  pub few : length corrections ≤ 32
+  pub inside : All (λ c. c.place < word_length) corrections
+  pub rising : AllPairs (λ c d. c.place < d.place) corrections
+  pub other : All (λ c. ¬ (c.octet ≡ slice_index word c.place)) corrections

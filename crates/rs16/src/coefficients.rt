@@ -1,69 +1,64 @@
 // Polynomials over the field, as small arrays of coefficients by value, lowest first.
-ghost use Rattle.std.specs.Prelude.{◌≡◌, ℕ, ◌+◌, ◌<◌, ◌≤◌, drop, bit_xor, slice_index};
+ghost use Rattle.std.specs.Prelude.{◌≡◌, ℕ, ◌+◌, ◌<◌, ◌≤◌, ◌∷◌, bit_xor, length, slice_index};
 ghost use Rattle.rs16.specs.Field.{mul, pow, alpha};
 ghost use Rattle.rs16.specs.Polynomials.{eval, apply, slope};
 
 use crate::field::{product, times_power};
+use std::array;
+
+// A polynomial of degree 16 at most.
+pub(crate) type Polynomial = [u8; 17];
 
 // The value at x.
 pub(crate) fn evaluated(p: &[u8], x: u8) -> u8
     ensures { result ≡ eval p.now x }
 {
-    let mut sum = 0;
-    for i in (0..p.len()).rev() {
-        sum = p[i] ^ product(x, sum);
-    }
-    sum
+    p.iter().rev().fold(0, |sum, c| *c ^ product(x, sum))
 }
 
 // The value at α to the power e.
-pub(crate) fn evaluated_at(p: [u8; 17], e: usize) -> u8
+pub(crate) fn evaluated_at(p: &Polynomial, e: usize) -> u8
     requires { e < 255 }
-    ensures { result ≡ eval p (pow alpha e) }
+    ensures { result ≡ eval p.now (pow alpha e) }
+{
+    p.iter().rev().fold(0, |sum, c| *c ^ times_power(sum, e))
+}
+
+// The sum of each coefficient times a syndrome, from the first of them on.
+pub(crate) fn applied(p: &[u8], s: &[u8]) -> u8
+    requires { length p.now ≤ length s.now }
+    ensures { result ≡ apply p.now (λ m. slice_index s.now m) }
 {
     let mut sum = 0;
-    for i in (0..17).rev() {
-        sum = p[i] ^ times_power(sum, e);
+    for (c, s) in p.iter().zip(s) {
+        sum ^= product(*c, *s);
     }
     sum
 }
 
-// The coefficients from one on, each times a syndrome, from syndrome h on: the sum. Those from `end` on are 0, and passed over.
-pub(crate) fn applied(p: [u8; 17], first: usize, end: usize, s: [u8; 32], h: usize) -> u8
-    requires shape { (first ≤ end) × ((end ≤ 17) × (h < 16)) }
-    requires zeros { (k : ℕ) → end ≤ k → slice_index p k ≡ 0 }
-    ensures { result ≡ apply (drop first p) (λ m. slice_index s (h + m)) }
+// The coefficient one place below k; below the lowest it is 0.
+fn below(p: &Polynomial, k: usize) -> u8
+    requires { k < 17 }
+    ensures { result ≡ slice_index (0 ∷ p.now) k }
 {
-    let mut sum = 0;
-    let mut at = h;
-    for i in first..end {
-        sum ^= product(p[i], s[at]);
-        at += 1;
-    }
-    sum
+    if k == 0 { 0 } else { p[k - 1] }
 }
 
 // The polynomial times z + x. Its degree is below 16, so that there is room.
-pub(crate) fn times_linear(p: [u8; 17], x: u8) -> [u8; 17]
-    ensures lowest { slice_index result 0 ≡ mul x (slice_index p 0) }
-    ensures others { (k : ℕ) → k < 16 → slice_index result (k + 1) ≡ bit_xor (slice_index p k) (mul x (slice_index p (k + 1))) }
+pub(crate) fn times_linear(p: &Polynomial, x: u8) -> Polynomial
+    ensures { (k : ℕ) → k < 17 → slice_index result k ≡ bit_xor (slice_index (0 ∷ p.now) k) (mul x (slice_index p.now k)) }
 {
-    let mut r = [0; 17];
-    r[0] = product(x, p[0]);
-    for k in 0..16 {
-        r[k + 1] = p[k] ^ product(x, p[k + 1]);
-    }
-    r
+    array::from_fn(|k| below(p, k) ^ product(x, p[k]))
 }
 
 // The value at x of the polynomial divided by z + x.
-pub(crate) fn slope_at(p: [u8; 17], x: u8) -> u8
-    ensures { result ≡ slope p x }
+pub(crate) fn slope_at(p: &Polynomial, x: u8) -> u8
+    ensures { result ≡ slope p.now x }
 {
     let mut value = 0;
     let mut sum = 0;
-    for i in (1..17).rev() {
-        value = p[i] ^ product(x, value);
+    for c in p[1..].iter().rev() {
+        value = *c ^ product(x, value);
         sum = value ^ product(x, sum);
     }
     sum

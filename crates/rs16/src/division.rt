@@ -1,8 +1,9 @@
 // Division by the generator, on line octets: the check octets of information octets, and the remainder of a word.
-ghost use Rattle.std.specs.Prelude.{◌≡◌, length};
+ghost use Rattle.std.specs.Prelude.{◌≡◌};
 ghost use Rattle.rs16.specs.Division.{checks, residue};
 
-use crate::rows::{Row, divided, unpacked};
+use crate::rows::Row;
+use std::array;
 
 // The check octets that make information octets a codeword.
 pub(crate) fn checks_of(information: &[u8]) -> [u8; 32]
@@ -15,20 +16,15 @@ pub(crate) fn checks_of(information: &[u8]) -> [u8; 32]
         d: 0,
     };
     for octet in information {
-        let next = divided(*octet, r);
-        r = next;
+        r = r.divided(*octet);
     }
-    unpacked(r)
+    r.octets()
 }
 
 // The remainder of a word, which is 0 for a codeword.
-pub(crate) fn residue_of(word: &[u8]) -> [u8; 32]
-    requires { length word.now ≡ 255 }
+pub(crate) fn residue_of(word: &[u8; 255]) -> [u8; 32]
     ensures { result ≡ residue word.now }
 {
-    let mut r = checks_of(&word[0..223]);
-    for k in 0..32 {
-        r[k] ^= word[223 + k];
-    }
-    r
+    let checks = checks_of(&word[..223]);
+    array::from_fn(|k| checks[k] ^ word[223 + k])
 }

@@ -16,8 +16,8 @@ mod tables;
 mod weaving;
 mod windows;
 
-pub use calls::{Rs16, encode_rs16, mend_rs16, rs16_information, rs16_reach};
-pub use corrections::{Corrections, SearchFault};
+pub use calls::{Rs16, rs16_means_rs16};
+pub use corrections::{Correction, Corrections};
 pub use field::{element_of, line_octet_of, product};
 pub use laws::{bench_values_stand, field_is_lawful, rs16_is_lawful};
 pub use searching::search_word;

@@ -1,45 +1,61 @@
-// A word taken out of a row, and check octets put back: octet j of word w is row octet j * depth + w.
-ghost use Rattle.std.specs.Prelude.{◌≡◌, ◌*◌, ◌<◌, ◌≤◌, ◌++◌, length, take};
+// A word taken out of a row, and octets put back: octet j of word w is row octet j * depth + w.
+ghost use Rattle.std.specs.Prelude.{◌≡◌, ◌*◌, ◌<◌, ◌++◌, length, take, None, Some, OnOk, IfOk, IfErr};
 ghost use Rattle.octets.specs.Words.{word_of, KeepsOthers};
+ghost use Rattle.code.specs.Refusal.{shape_refusal};
 ghost use Rattle.rs16.specs.Mending.{corrected, Corrects};
 
-use crate::Corrections;
+use crate::Correction;
+use code::{ShapeFault, check_shape};
+use std::array;
 
-// A word of the row.
-pub(crate) fn gathered(row: &[u8], depth: usize, word: usize) -> [u8; 255]
-    requires { (length row.now ≡ 255 * depth) × (word < depth) }
-    ensures { result ≡ word_of depth word row.now }
-{
-    let mut octets = [0; 255];
-    let mut place = word;
-    for j in 0..255 {
-        octets[j] = row[place];
-        place += depth;
-    }
-    octets
+// A word that is woven into a row of `depth` words.
+#[derive(Clone, Copy)]
+pub(crate) struct Woven {
+    depth: usize,
+    word: usize,
+    ghost among: { word < depth },
 }
 
-// Puts check octets behind the information octets of a word.
-pub(crate) fn store_checks(row: &mut [u8], depth: usize, word: usize, checks: [u8; 32])
-    requires { (length row.old ≡ 255 * depth) × (word < depth) }
-    ensures word { word_of depth word row.new ≡ take 223 (word_of depth word row.old) ++ checks }
-    ensures others { KeepsOthers depth word row.old row.new }
-{
-    let mut at = 223 * depth + word;
-    for k in 0..32 {
-        row[at] = checks[k];
-        at += depth;
+impl Woven {
+    // The word, if the row has it.
+    pub(crate) fn checked(row: &[u8], depth: usize, word: usize) -> Result<Woven, ShapeFault>
+        ensures passed { OnOk result (shape_refusal depth word row.now ≡ None) }
+        ensures same_depth { IfOk result (λ woven. woven.depth ≡ depth) }
+        ensures same_word { IfOk result (λ woven. woven.word ≡ word) }
+        ensures refused { IfErr result (λ fault. shape_refusal depth word row.now ≡ Some fault) }
+    {
+        check_shape(row, depth, word)?;
+        Ok(Woven { depth, word })
     }
-}
 
-// Makes corrections in a word, and touches nothing else.
-pub(crate) fn store_corrections(row: &mut [u8], depth: usize, word: usize, corrections: Corrections)
-    requires shape { (length row.old ≡ 255 * depth) × ((word < depth) × (depth ≤ 8)) }
-    requires corrects { Corrects (word_of depth word row.old) corrections.count corrections.places corrections.octets }
-    ensures word { word_of depth word row.new ≡ corrected corrections.count corrections.places corrections.octets (word_of depth word row.old) }
-    ensures others { KeepsOthers depth word row.old row.new }
-{
-    for i in 0..corrections.count {
-        row[corrections.places[i] as usize * depth + word] = corrections.octets[i];
+    // Its octets.
+    pub(crate) fn gathered(self, row: &[u8]) -> [u8; 255]
+        requires { length row.now ≡ 255 * self.depth }
+        ensures { result ≡ word_of self.depth self.word row.now }
+    {
+        array::from_fn(|j| row[j * self.depth + self.word])
+    }
+
+    // Puts check octets behind its information octets.
+    pub(crate) fn store_checks(self, row: &mut [u8], checks: [u8; 32])
+        requires { length row.old ≡ 255 * self.depth }
+        ensures word { word_of self.depth self.word row.new ≡ take 223 (word_of self.depth self.word row.old) ++ checks }
+        ensures others { KeepsOthers self.depth self.word row.old row.new }
+    {
+        for (k, check) in checks.iter().enumerate() {
+            row[(223 + k) * self.depth + self.word] = *check;
+        }
+    }
+
+    // Makes corrections in it, and touches nothing else.
+    pub(crate) fn store_corrections(self, row: &mut [u8], corrections: &[Correction])
+        requires size { length row.old ≡ 255 * self.depth }
+        requires corrects { Corrects (word_of self.depth self.word row.old) corrections.now }
+        ensures word { word_of self.depth self.word row.new ≡ corrected corrections.now (word_of self.depth self.word row.old) }
+        ensures others { KeepsOthers self.depth self.word row.old row.new }
+    {
+        for correction in corrections {
+            row[correction.place as usize * self.depth + self.word] = correction.octet;
+        }
     }
 }

@@ -1,83 +1,77 @@
 // Elimination: a polynomial of degree 16 at most, other than 0, that gives 0 on the first sixteen windows of the syndromes.
-ghost use Rattle.std.specs.Prelude.{◌≡◌, ℕ, ◌<◌, ◌≤◌, length, bit_xor, slice_index};
+ghost use Rattle.std.specs.Prelude.{◌≡◌, ℕ, ◌<◌, bit_xor, slice_index};
 ghost use Rattle.octets.specs.Words.{max_reach};
 ghost use Rattle.rs16.specs.Field.{mul};
-ghost use Rattle.rs16.specs.Mending.{Monic, Pivots, Reduces, Solution};
+ghost use Rattle.rs16.specs.Mending.{Monic, Solution};
+ghost use Rattle.rs16.specs.Elimination.{Pivots, Reduces};
 
-use crate::coefficients::applied;
+use crate::coefficients::{Polynomial, applied};
 use crate::field::{inverse, logarithm, product, times_power};
+use std::array;
 
 // A row, plus f times another.
-fn combined(r: [u8; 17], q: [u8; 17], f: u8) -> [u8; 17]
+fn combined(r: &Polynomial, q: &Polynomial, f: u8) -> Polynomial
     requires { 0 < f }
-    ensures { (k : ℕ) → k < 17 → slice_index result k ≡ bit_xor (slice_index r k) (mul f (slice_index q k)) }
+    ensures { (k : ℕ) → k < 17 → slice_index result k ≡ bit_xor (slice_index r.now k) (mul f (slice_index q.now k)) }
 {
     let e = logarithm(f);
-    let mut a = [0; 17];
-    for i in 0..17 {
-        a[i] = r[i] ^ times_power(q[i], e);
-    }
-    a
+    array::from_fn(|k| r[k] ^ times_power(q[k], e))
 }
 
 // f times a row.
-fn multiplied(r: [u8; 17], f: u8) -> [u8; 17]
+fn multiplied(r: Polynomial, f: u8) -> Polynomial
     ensures { (k : ℕ) → k < 17 → slice_index result k ≡ mul f (slice_index r k) }
 {
-    let mut a = [0; 17];
-    for i in 0..17 {
-        a[i] = product(f, r[i]);
-    }
-    a
+    r.map(|c| product(f, c))
 }
 
-// A row, and the window up to which it gives 0.
-#[derive(Clone, Copy)]
-struct Reduced {
-    row: [u8; 17],
-    upto: usize,
+// A row reduced by the pivots that there are.
+enum Reduced {
+    // it gives 0 on all windows
+    Solves(Polynomial),
+    // it gives 0 on the windows before this one, and `value` on it, and there is no pivot to make that 0
+    Stops {
+        row: Polynomial,
+        window: usize,
+        value: u8,
+    },
 }
 
 // The row made 0 on one window after the other by the pivots, up to the first where it is not 0 and there is no pivot.
-fn reduce(row: [u8; 17], n: usize, rows: &[[u8; 17]], has: &[u8], s: [u8; 32]) -> Reduced
-    requires size { (length rows.now ≡ 16) × ((length has.now ≡ 16) × (n < 17)) }
-    requires flags { (k : ℕ) → k < 16 → slice_index has.now k ≤ 1 }
+fn reduce(row: Polynomial, n: usize, pivots: &[Option<Polynomial>; 16], s: &[u8; 32]) -> Reduced
+    requires degree { n < 17 }
     requires monic { Monic max_reach n row }
-    requires pivots { Pivots max_reach s n has.now rows.now }
-    ensures { Reduces max_reach s n has.now result.row result.upto }
+    requires pivots { Pivots max_reach s.now n pivots.now }
+    ensures { Reduces max_reach s.now n pivots.now result }
 {
-    let mut r = row;
-    for h in 0..16 {
-        let v = applied(r, 0, n + 1, s, h);
-        if v != 0 {
-            if has[h] == 0 {
-                return Reduced { row: r, upto: h };
-            }
-            let next = combined(r, rows[h], v);
-            r = next;
+    let mut row = row;
+    for (window, pivot) in pivots.iter().enumerate() {
+        let value = applied(&row[..=n], &s[window..]);
+        if value != 0 {
+            let Some(pivot) = pivot else {
+                return Reduced::Stops { row, window, value };
+            };
+            row = combined(&row, pivot, value);
         }
     }
-    Reduced { row: r, upto: 16 }
+    Reduced::Solves(row)
 }
 
 // The powers of z are reduced one after the other: the first that all windows let through is the answer, and each other
 // becomes the pivot of the window where it stopped. There are seventeen powers and sixteen windows.
-pub(crate) fn solution(s: [u8; 32]) -> [u8; 17]
-    ensures { Solution max_reach result s }
+pub(crate) fn solution(s: &[u8; 32]) -> Polynomial
+    ensures { Solution max_reach result s.now }
 {
-    let mut rows = [[0; 17]; 16];
-    let mut has = [0; 16];
+    let mut pivots = [None; 16];
     for n in 0..17 {
-        let mut unit = [0; 17];
-        unit[n] = 1;
-        let got = reduce(unit, n, &rows, &has, s);
-        if got.upto == 16 {
-            return got.row;
+        let mut power = [0; 17];
+        power[n] = 1;
+        match reduce(power, n, &pivots, s) {
+            Reduced::Solves(row) => return row,
+            Reduced::Stops { row, window, value } => {
+                pivots[window] = Some(multiplied(row, inverse(value)));
+            }
         }
-        let v = applied(got.row, 0, n + 1, s, got.upto);
-        let pivot = multiplied(got.row, inverse(v));
-        rows[got.upto] = pivot;
-        has[got.upto] = 1;
     }
-    [0; 17]
+    unreachable!()
 }

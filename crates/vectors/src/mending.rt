@@ -1,99 +1,115 @@
 // Words altered by the generator and mended: digests of the answers and of the rows, to be compared with another decoder's.
-use crate::{FACTOR, START, digest, encode_row, fill, next};
-use rs16::mend_rs16;
+ghost use Rattle.std.specs.Prelude.{◌<◌, ◌≤◌};
 
-const ROWS: usize = 1000;
+use crate::ROWS;
+use crate::digest::Digest;
+use crate::encoding::encode_row;
+use crate::generator::Generator;
+use code::Code;
+use rs16::Rs16;
 
-// Adds a number to an octet of the row, if there is one at that place.
-fn alter(row: &mut [u8], place: usize, by: u8) {
-    if place < row.len() {
-        row[place] ^= by;
-    }
-}
-
-// The place in its word of the octet that is altered as number i, of four kinds: anywhere, in a burst, and in steps of 17 and of 16.
-fn place_of(kind: u32, number: u32, start: usize, i: usize) -> usize {
-    match kind {
-        0 => (number >> 8) as usize % 255,
-        1 => start.wrapping_add(i) % 255,
-        2 => start.wrapping_add(i.wrapping_mul(17)) % 255,
-        _ => start.wrapping_add(i.wrapping_mul(16)) % 255,
-    }
-}
-
-// Alters up to 20 octets of a word, and answers the generator's last number. It takes a number for the kind (its first two
-// digits), one for how many (without its last eight digits, modulo 21), one for the start (the same, modulo 255), and one for
-// each octet, whose first eight digits are added to it.
-fn alter_word(row: &mut [u8], depth: usize, word: usize, number: u32) -> u32 {
-    let first = next(number);
-    let second = next(first);
-    let third = next(second);
-    let kind = first >> 30;
-    let many = (second >> 8) as usize % 21;
-    let start = (third >> 8) as usize % 255;
-    let mut last = third;
-    for i in 0..many {
-        last = next(last);
-        let place = place_of(kind, last, start, i);
-        alter(
-            row,
-            place.wrapping_mul(depth).wrapping_add(word),
-            (last >> 24) as u8,
-        );
-    }
-    last
-}
-
-// What mending a row's words came to.
+// How the places of the octets that are altered lie in a word.
 #[derive(Clone, Copy)]
-pub struct Tally {
+enum Places {
+    Anywhere,
+    // in steps of so many octets
+    Steps(u8),
+}
+
+impl From<u32> for Places {
+    // by the first two digits of a number: anywhere, in a burst, and in steps of 17 and of 16
+    fn from(number: u32) -> Places {
+        match number >> 30 {
+            0 => Places::Anywhere,
+            1 => Places::Steps(1),
+            2 => Places::Steps(17),
+            _ => Places::Steps(16),
+        }
+    }
+}
+
+impl Places {
+    // The place of the octet that is altered as number i, by the generator's number for it.
+    fn place(self, start: usize, i: usize, number: u32) -> usize
+        requires near_start { start < 255 }
+        requires few { i < 21 }
+        ensures { result < 255 }
+    {
+        match self {
+            Places::Anywhere => (number >> 8) as usize % 255,
+            Places::Steps(step) => (start + i * usize::from(step)) % 255,
+        }
+    }
+}
+
+// Alters up to 20 octets of a word. It takes a number for how their places lie, one for how many (without its last eight digits,
+// modulo 21), one for the start (the same, modulo 255), and one for each octet, whose first eight digits are added to it.
+fn alter_word(row: &mut [u8], depth: usize, word: usize, generator: &mut Generator)
+    requires few { depth ≤ 8 }
+    requires among { word < depth }
+{
+    let places = Places::from(generator.number());
+    let many = (generator.number() >> 8) as usize % 21;
+    let start = (generator.number() >> 8) as usize % 255;
+    for i in 0..many {
+        let number = generator.number();
+        let place = places.place(start, i, number);
+        if let Some(octet) = row.get_mut(place * depth + word) {
+            *octet ^= (number >> 24) as u8;
+        }
+    }
+}
+
+// What mending rows came to.
+#[derive(Clone, Copy)]
+pub(crate) struct Mending {
     // the digest of the answers: how many octets were put right, or 256 and the refusal's number
-    pub answers: u64,
+    pub answers: Digest,
     // the digest of the rows afterwards
-    pub rows: u64,
+    pub rows: Digest,
     pub mended: usize,
     pub refused: usize,
 }
 
-// Mends each word of a row.
-fn mend_row(row: &mut [u8], depth: usize, before: Tally) -> Tally {
-    let mut tally = before;
-    for word in 0..depth {
-        let answer = match mend_rs16(row, depth, word) {
-            Ok(count) => {
-                tally.mended = tally.mended.wrapping_add(1);
-                count as u64
-            }
-            Err(fault) => {
-                tally.refused = tally.refused.wrapping_add(1);
-                256u64.wrapping_add(fault.number() as u64)
-            }
+impl Mending {
+    // Rows filled by the generator, encoded but for each eighth one, altered word by word, and mended.
+    pub(crate) fn of_rows(row: &mut [u8], depth: usize) -> Mending
+        requires { depth ≤ 8 }
+    {
+        let mut generator = Generator::from_seed(0x352E_F853);
+        let mut mending = Mending {
+            answers: Digest::new(),
+            rows: Digest::new(),
+            mended: 0,
+            refused: 0,
         };
-        tally.answers = (tally.answers ^ answer).wrapping_mul(FACTOR);
+        for i in 0..ROWS {
+            generator.fill(row);
+            if i % 8 != 7 {
+                encode_row(row, depth);
+            }
+            for word in 0..depth {
+                alter_word(row, depth, word, &mut generator);
+            }
+            mending.add(row, depth);
+        }
+        mending
     }
-    tally.rows = digest(tally.rows, row);
-    tally
-}
 
-// Rows filled by the generator, encoded but for each eighth one, altered word by word, and mended.
-pub(crate) fn mend_rows(row: &mut [u8], depth: usize) -> Tally {
-    let mut number = 0x352E_F853;
-    let mut tally = Tally {
-        answers: START,
-        rows: START,
-        mended: 0,
-        refused: 0,
-    };
-    for i in 0..ROWS {
-        number = fill(row, number);
-        if i % 8 != 7 {
-            let _ = encode_row(row, depth);
-        }
+    // Mends each word of a row.
+    fn add(&mut self, row: &mut [u8], depth: usize) {
         for word in 0..depth {
-            number = alter_word(row, depth, word, number);
+            match Rs16.mend(row, depth, word) {
+                Ok(count) => {
+                    self.mended = self.mended.saturating_add(1);
+                    self.answers.feed(count as u64);
+                }
+                Err(fault) => {
+                    self.refused = self.refused.saturating_add(1);
+                    self.answers.feed(256 + fault.number() as u64);
+                }
+            }
         }
-        let next_tally = mend_row(row, depth, tally);
-        tally = next_tally;
+        self.rows.feed_octets(row);
     }
-    tally
 }

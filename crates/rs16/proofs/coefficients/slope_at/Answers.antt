@@ -1,25 +1,22 @@
-use Rattle.std.proofs.Common.{◌≡◌, ℕ, ◌-◌, List, length, get_or, drop, ap, ◌∙◌, ap₂, arith, rules}
-use Rattle.rs16.specs.Field.{◌⊕◌, ◌⊗◌}
-use Rattle.rs16.specs.Polynomials.{eval, horner}
-use Rattle.rs16.proofs.Sums.{eval_none, eval_down, horner_none, horner_down}
+use Rattle.std.proofs.Common.{◌≡◌, ◌∙◌, length, take, drop, length-drop, arith, rules}
+use Rattle.std.proofs.lemmas.List.{take_all}
+use Rattle.rs16.proofs.Folds.{slope_none, slope_more, slope_all}
 use Rattle.rs16.proofs.coefficients.slope_at.Goals as goal
 
-pub loop-i-init : goal.loop-i-init
-loop-i-init c =
-    let size : length c.args.p ≡ 17 = search rules in
-    (omega arith, eval_none c.args.p c.args.x 17 (omega arith), horner_none c.args.p c.args.x 17 (omega arith))
+pub loop-c-init : goal.loop-c-init
+loop-c-init c =
+    slope_none (drop 1 c.args.p.now) c.into_iter-c-iterator.result.iter.rest.now c.args.x (
+    let size : length c.args.p.now ≡ 17 = search rules in
+    let part : c.iter.result.rest.now ≡ take 16 (drop 1 c.args.p.now) = c.iter.ensures.rest in
+    let left : c.into_iter-c-iterator.result.iter.rest.now ≡ c.iter.result.rest.now = search rules in
+    left ∙ part ∙ take_all 16 (drop 1 c.args.p.now) (omega (arith, length-drop 1 c.args.p.now)))
 
-pub loop-i-preserved : goal.loop-i-preserved
-loop-i-preserved c =
-    let p : List ℕ = c.args.p in
-    let x : ℕ = c.args.x in
-    let i : ℕ = c.loop-i.i in
-    let size : length p ≡ 17 = search rules in
-    let value : get_or p (i - 1) 0 ⊕ c.product.result ≡ eval (drop (i - 1) p) x =
-    ap (λ z. get_or p (i - 1) 0 ⊕ z) (c.product.ensures ∙ ap (λ z. x ⊗ z) c.loop-i.invariant.1) ∙ eval_down p x i (omega arith) (omega arith) in
-    (omega arith, value, ap₂ ◌⊕◌ value (c.product-in-loop-i.ensures ∙ ap (λ z. x ⊗ z) c.loop-i.invariant.2) ∙ horner_down p x i (omega arith) (omega arith))
+pub loop-c-preserved : goal.loop-c-preserved
+loop-c-preserved c =
+    slope_more (drop 1 c.args.p.now) c.loop-c.c-iterator.iter.rest.now c.next.new.self.iter.rest.now c.args.x c.in-Some.c.now
+    c.loop-c.value c.loop-c.sum c.product.result c.product-in-loop-c.result
+    c.in-Some.ensures.steps c.product.ensures c.product-in-loop-c.ensures c.loop-c.invariant
 
 pub returns : goal.returns
 returns c =
-    let end : c.loop-i.i ≡ 1 = omega arith in
-    c.loop-i.invariant.2 ∙ ap (λ i. eval (horner c.args.x (drop i c.args.p)) c.args.x) end
+    slope_all (drop 1 c.args.p.now) c.loop-c.c-iterator.iter.rest.now c.args.x c.loop-c.value c.loop-c.sum c.in-None.ensures.steps.0 c.loop-c.invariant

@@ -1,6 +1,6 @@
-use Rattle.std.proofs.Common.{◌≡◌, ◌≤◌, drop}
-use Rattle.rs16.specs.Polynomials.{eval, horner}
+use Rattle.std.proofs.Common.{drop}
+use Rattle.rs16.proofs.Folds.{Divided}
 use Rattle.rs16.proofs.coefficients.slope_at.Given as goal
 
-abbrev pub invariant-loop-i : goal.invariant-loop-i
-invariant-loop-i l = (1 ≤ l.i) × (l.value ≡ eval (drop l.i l.p) l.x) × (l.sum ≡ eval (horner l.x (drop l.i l.p)) l.x)
+abbrev pub invariant-loop-c : goal.invariant-loop-c
+invariant-loop-c l = Divided (drop 1 l.p) l.c-iterator.iter.rest.now l.x l.value l.sum

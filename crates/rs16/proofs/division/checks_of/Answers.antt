@@ -12,9 +12,9 @@ pub loop-octet-preserved : goal.loop-octet-preserved
 loop-octet-preserved c =
     let w : List ℕ = c.args.information.now in
     let i : ℕ = c.loop-octet.octet-index in
-    ap (λ (r : List ℕ). remainder r (drop (i + 1) w)) c.divided-next.ensures ∙ remainder_more (octets_of c.loop-octet.r) w i (omega arith) ∙ c.loop-octet.invariant
+    ap (λ (r : List ℕ). remainder r (drop (i + 1) w)) c.divided-r.ensures ∙ remainder_more (octets_of c.loop-octet.r) w i (omega arith) ∙ c.loop-octet.invariant
 
 pub returns : goal.returns
 unfolding checks
 returns c =
-    c.unpacked.ensures ∙ sym (remainder_all (octets_of c.loop-octet.r) c.args.information.now c.loop-octet.octet-index (omega arith)) ∙ c.loop-octet.invariant
+    c.octets.ensures ∙ sym (remainder_all (octets_of c.loop-octet.r) c.args.information.now c.loop-octet.octet-index (omega arith)) ∙ c.loop-octet.invariant

@@ -11,5 +11,5 @@ returns c =
     let x = c.locator_at-x.ensures in
     c.line_octet_of.ensures.value
     ∙ ap line_octet (c.product.ensures
-    ∙ ap₂ ◌⊗◌ (c.evaluated.ensures ∙ ap (eval c.args.o) x)
-    (c.inverse.ensures ∙ ap inv (c.product-below.ensures ∙ ap₂ ◌⊗◌ (c.slope_at.ensures ∙ ap (slope c.args.p) x) c.lift_at.ensures)))
+    ∙ ap₂ ◌⊗◌ (c.evaluated.ensures ∙ ap (eval c.args.o.now) x)
+    (c.inverse.ensures ∙ ap inv (c.product-below.ensures ∙ ap₂ ◌⊗◌ (c.slope_at.ensures ∙ ap (slope c.args.p.now) x) c.lift_at.ensures)))

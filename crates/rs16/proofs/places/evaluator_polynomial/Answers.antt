@@ -1,21 +1,14 @@
-use Rattle.std.proofs.Common.{◌≡◌, ◌<◌, ◌≢◌, length, ◌∙◌, arith, length-set, get_or-set_other, get_or-set_same, rules, below_more}
-use Rattle.std.proofs.lemmas.List.{get_or_past}
+use Rattle.std.proofs.Common.{◌≡◌, ◌+◌, ◌-◌, length, take, drop, slice_index, ap, ◌∙◌, length-drop, arith, rules}
+use Rattle.std.proofs.lemmas.List.{take_all}
+use Rattle.rs16.specs.Polynomials.{apply}
+use Rattle.rs16.proofs.Made.{made_at}
 use Rattle.rs16.proofs.Products.{evaluator_all}
 use Rattle.rs16.proofs.places.evaluator_polynomial.Goals as goal
 
-pub applied-requires : goal.applied-requires
-applied-requires c =
-    let size : length c.args.p ≡ 17 = search rules in
-    record { shape = search rules; zeros = λ k l. get_or_past c.args.p k 0 (omega arith) }
-
-pub loop-j-preserved : goal.loop-j-preserved
-loop-j-preserved c = (
-  length-set _ _ _ ∙ c.loop-j.invariant.0,
-  below_more _ _
-      (λ i h. let ne : i ≢ c.loop-j.j = omega arith in rw get_or-set_other (c.loop-j.invariant.1 i h))
-      (let lt : c.loop-j.j < length c.loop-j.o = omega arith in rw get_or-set_same c.applied.ensures),
-)
-
 pub returns : goal.returns
 returns c =
-    evaluator_all c.args.p c.args.s c.loop-j.o (search rules) c.loop-j.invariant.0 (λ i l. c.loop-j.invariant.1 i (omega arith))
+    let size : length c.args.p.now ≡ 17 = search rules in
+    evaluator_all c.args.p.now c.args.s.now c.from_fn.result size c.from_fn.ensures.items.long (λ j l.
+    made_at _ (λ i. apply (take (17 - (i + 1)) (drop (i + 1) c.args.p.now)) (λ m. slice_index c.args.s.now m)) _ c.from_fn.result 16 0
+    (λ i y q l called. search rules) c.from_fn.ensures.items j l
+    ∙ ap (λ q. apply q (λ m. slice_index c.args.s.now m)) (take_all (17 - (j + 1)) (drop (j + 1) c.args.p.now) (omega (arith, length-drop (j + 1) c.args.p.now))))

@@ -1,12 +1,14 @@
-use Rattle.std.proofs.Common.{◌<◌, ◌≢◌, length, ap, ◌∙◌, arith, length-set, get_or-set_other, get_or-set_same, below_more}
-use Rattle.rs16.specs.Polynomials.{eval}
+use Rattle.std.proofs.Common.{ap, ◌∙◌, ◌*◌, ◌%◌, rules}
+use Rattle.rs16.specs.Field.{pow, alpha}
 use Rattle.rs16.specs.Locators.{locator_power}
+use Rattle.rs16.specs.Polynomials.{eval}
+use Rattle.rs16.proofs.Made.{made_at}
 use Rattle.rs16.proofs.places.values_of.Goals as goal
 
-pub loop-k-preserved : goal.loop-k-preserved
-loop-k-preserved c = (
-  length-set _ _ _ ∙ c.loop-k.invariant.0,
-  below_more _ _
-      (λ i h. let ne : i ≢ c.loop-k.k = omega arith in rw get_or-set_other (c.loop-k.invariant.1 i h))
-      (let lt : c.loop-k.k < length c.loop-k.values = omega arith in rw get_or-set_same (c.evaluated_at.ensures ∙ ap (eval c.args.p) (locator_power c.loop-k.k))),
+pub returns : goal.returns
+returns c = (
+  c.from_fn.ensures.items.long,
+  λ k l.
+      made_at _ (λ i. eval c.args.p.now (pow alpha (11 * i % 255))) _ c.from_fn.result 255 0 (λ i y q l called. search rules) c.from_fn.ensures.items k l
+      ∙ ap (eval c.args.p.now) (locator_power k),
 )

@@ -1,29 +1,48 @@
-use Rattle.std.proofs.Common.{◌≡◌, ℕ, ◌+◌, ◌<◌, ◌≤◌, List, [], length, get_or, sym, ◌∙◌, subst, arith, rules}
+use Rattle.std.proofs.Common.{◌≡◌, ℕ, ◌+◌, List, length, slice_index, IfSome, sym, ◌∙◌, subst, arith, rules}
+use Rattle.rs16.specs.Elimination.{Pivot}
 use Rattle.rs16.specs.Mending.{Monic, Cleared}
-use Rattle.rs16.proofs.Elimination.{taken_off, cleared_more}
+use Rattle.rs16.specs.Polynomials.{apply}
+use Rattle.rs16.proofs.Elimination.{taken_off, cleared_more, on_window}
 use Rattle.rs16.proofs.windows.reduce.Goals as goal
-use Rattle.rs16.proofs.windows.reduce.Goals.{then-v-ne0+else-has-h-eq0, else-v-ne0}
+use Rattle.rs16.proofs.windows.reduce.Goals.{then-value-ne0+in-Some, else-value-ne0}
 
-pub applied-v-requires : goal.applied-v-requires
-applied-v-requires c = record { shape = search rules; zeros = λ k l. c.loop-h.invariant.1.above k (omega arith) }
+pub returns-in_default : goal.returns-in_default
+returns-in_default c =
+    let r : List ℕ = c.loop-window.row in
+    let s : List ℕ = c.args.s.now in
+    let size : length s ≡ 32 = search rules in
+    let value : c.applied-value.result ≡ apply r (λ m. slice_index s (c.loop-window.window + m)) =
+    c.applied-value.ensures ∙ on_window r s (c.args.n + 1) c.loop-window.window size (λ k l. c.loop-window.invariant.1.above k (omega arith)) in
+    record {
+      monic = c.loop-window.invariant.1;
+      bound = omega arith;
+      cleared = c.loop-window.invariant.2;
+      free = c.in_default.is;
+      value = value;
+      octet = c.applied-value.type_inv;
+      other = c.if-value-ne0.true;
+    }
 
-pub loop-h-preserved : goal.loop-h-preserved
-loop-h-preserved c =
-    let s : List ℕ = c.args.s in
+pub loop-window-preserved : goal.loop-window-preserved
+loop-window-preserved c =
+    let s : List ℕ = c.args.s.now in
     let n : ℕ = c.args.n in
-    let h : ℕ = c.loop-h.h in
-    let lh : h < 16 = omega arith in
-    elim c.if-v-ne0.branch [
-      | then-v-ne0+else-has-h-eq0 w ↦
-          let a : List ℕ = w.combined-next.result in
+    let h : ℕ = c.loop-window.window in
+    let r : List ℕ = c.loop-window.row in
+    let size : length s ≡ 32 = search rules in
+    let value : c.applied-value.result ≡ apply r (λ m. slice_index s (h + m)) =
+    c.applied-value.ensures ∙ on_window r s (n + 1) h size (λ k l. c.loop-window.invariant.1.above k (omega arith)) in
+    elim c.if-value-ne0.branch [
+      | then-value-ne0+in-Some w ↦
+          let a : List ℕ = w.combined-row.result in
           let la : length a ≡ 17 = search rules in
-          let flag : get_or c.args.has.now h 0 ≤ 1 = c.requires.flags h lh in
-          let one : get_or c.args.has.now h 0 ≡ 1 = omega (arith, w.if-has-h-eq0.false) in
+          let q : List ℕ = w.in-Some.pivot in
+          let pivot : Pivot 16 s n h q = subst (λ o. IfSome o (Pivot 16 s n h)) w.in-Some.is (c.requires.pivots h (omega arith)) in
           let got : Monic 16 n a × Cleared s a (h + 1) =
-          taken_off 16 s a c.loop-h.r (get_or c.args.rows.now h []) n h c.applied-v.result c.applied-v.type_inv (omega arith) la
-          c.loop-h.invariant.1 c.loop-h.invariant.2 (c.requires.pivots h lh one) c.applied-v.ensures w.combined-next.ensures in
-          subst (λ (z : List ℕ). (length z ≡ 17) × Monic 16 n z × Cleared s z (h + 1)) (sym w.r-is) (la, got.0, got.1)
-      | else-v-ne0 w ↦
-          subst (λ (z : List ℕ). (length z ≡ 17) × Monic 16 n z × Cleared s z (h + 1)) (sym w.r-is)
-          (c.loop-h.invariant.0, c.loop-h.invariant.1, cleared_more s c.loop-h.r h c.loop-h.invariant.2 (sym c.applied-v.ensures ∙ w.if-v-ne0.false))
+          taken_off 16 s a r q n h c.applied-value.result c.applied-value.type_inv (omega arith) la
+          c.loop-window.invariant.1 c.loop-window.invariant.2 pivot value w.combined-row.ensures in
+          subst (λ (z : List ℕ). (length z ≡ 17) × Monic 16 n z × Cleared s z (h + 1)) (sym w.row-is) (la, got.0, got.1)
+      | else-value-ne0 w ↦
+          subst (λ (z : List ℕ). (length z ≡ 17) × Monic 16 n z × Cleared s z (h + 1)) (sym w.row-is)
+          (c.loop-window.invariant.0, c.loop-window.invariant.1, cleared_more s r h c.loop-window.invariant.2 (sym value ∙ w.if-value-ne0.false))
     ]

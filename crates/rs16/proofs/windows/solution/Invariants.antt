@@ -1,6 +1,6 @@
-use Rattle.std.proofs.Common.{◌≡◌, ℕ, ◌<◌, ◌≤◌, length, get_or, sum}
-use Rattle.rs16.specs.Mending.{Pivots}
+use Rattle.std.proofs.Common.{◌≡◌, length, is_some, count_by}
+use Rattle.rs16.specs.Elimination.{Pivots}
 use Rattle.rs16.proofs.windows.solution.Given as goal
 
 abbrev pub invariant-loop-n : goal.invariant-loop-n
-invariant-loop-n l = (length l.rows ≡ 16) × (length l.has ≡ 16) × ((k : ℕ) → k < 16 → get_or l.has k 0 ≤ 1) × (sum l.has ≡ l.n) × Pivots 16 l.s l.n l.has l.rows
+invariant-loop-n l = (length l.pivots ≡ 16) × (count_by is_some l.pivots ≡ l.n) × Pivots 16 l.s l.n l.pivots

@@ -1,5 +1,8 @@
+use Rattle.std.proofs.Common.{ℕ, ◌<◌, slice_index, rules}
 use Rattle.code.specs.EveryWord.{mended_as_is}
 use Rattle.code.proofs.bare.BareCode.mend.Goals as goal
 
 pub returns : goal.returns
-returns c = (c.in_ok-check_shape.ensures, mended_as_is c.args.depth c.args.word c.args.row.now c.below_256.ensures)
+returns c =
+    let octets : (place : ℕ) → slice_index c.args.row.now place < 256 = search rules in
+    (c.in_ok-check_shape.ensures, mended_as_is c.args.depth c.args.word c.args.row.now octets)

@@ -1,18 +1,21 @@
-use Rattle.std.proofs.Common.{take, ap, ◌∙◌}
-use Rattle.code.proofs.Passed.{passed_size, passed_word}
+use Rattle.std.proofs.Common.{ℕ, ◌<◌, List, slice_index, take, ap, ◌∙◌, subst, rules}
+use Rattle.code.specs.Calls.{Encoded}
+use Rattle.rs16.specs.Codewords.{rs16}
 use Rattle.rs16.specs.Division.{checks}
 use Rattle.rs16.proofs.Completed.{encoded}
 use Rattle.rs16.proofs.calls.Rs16Code.encode.Goals as goal
 
-pub store_checks-requires : goal.store_checks-requires
-store_checks-requires c =
-    let passed = c.in_ok-check_shape.ensures in
-    (passed_size c.args.depth c.args.word c.args.row.now passed, passed_word c.args.depth c.args.word c.args.row.now passed)
-
 pub returns : goal.returns
-returns c = (
-  c.in_ok-check_shape.ensures,
-  encoded c.args.depth c.args.word c.args.row.now c.store_checks.new.row c.checks_of-checks.result c.below_256.ensures
-      (c.checks_of-checks.ensures ∙ ap (λ w. checks (take 223 w)) c.gathered-octets.ensures)
-      c.store_checks.ensures.word c.store_checks.ensures.others,
-)
+returns c =
+    let woven = c.in_ok-woven.woven in
+    let before : List ℕ = c.args.row.now in
+    let after : List ℕ = c.store_checks.new.row in
+    let octets : (place : ℕ) → slice_index before place < 256 = search rules in
+    let made : Encoded rs16 woven.depth woven.word before after =
+    encoded woven.depth woven.word before after c.checks_of-checks.result octets
+    (c.checks_of-checks.ensures ∙ ap (λ w. checks (take 223 w)) c.gathered-octets.ensures)
+    c.store_checks.ensures.word c.store_checks.ensures.others in (
+      c.in_ok-woven.ensures.passed,
+      subst (λ d. Encoded rs16 d c.args.word before after) c.in_ok-woven.ensures.same_depth
+          (subst (λ w. Encoded rs16 woven.depth w before after) c.in_ok-woven.ensures.same_word made),
+    )

@@ -1,26 +1,29 @@
-use Rattle.std.proofs.Common.{subst}
-use Rattle.code.proofs.Passed.{passed_depth_high, passed_size, passed_word}
-use Rattle.rs16.specs.Mending.{Corrects}
+use Rattle.std.proofs.Common.{ℕ, List, length, sym, ap, ◌∙◌, subst}
+use Rattle.code.specs.Calls.{Mended}
+use Rattle.code.specs.Meaning.{Reached}
+use Rattle.octets.specs.Words.{word_of}
+use Rattle.rs16.specs.Codewords.{rs16}
+use Rattle.rs16.specs.Mending.{corrected, Corrects}
+use Rattle.rs16.specs.Searching.{Searches}
+use Rattle.rs16.specs.declared.corrections.Correction.{Correction}
 use Rattle.rs16.proofs.Completed.{mended}
 use Rattle.rs16.proofs.calls.Rs16Code.mend.Goals as goal
 
-pub store_corrections-requires : goal.store_corrections-requires
-store_corrections-requires c =
-    let passed = c.in_ok-check_shape.ensures in
-    let found = c.in_ok-corrections.corrections in
-    record {
-      shape = (
-        passed_size c.args.depth c.args.word c.args.row.now passed,
-        (passed_word c.args.depth c.args.word c.args.row.now passed, passed_depth_high c.args.depth c.args.word c.args.row.now passed),
-      );
-      corrects = subst (λ w. Corrects w found.count found.places found.octets) c.gathered-octets.ensures c.in_ok-corrections.ensures.0;
-    }
-
 pub returns : goal.returns
 returns c =
-    let found = c.in_ok-corrections.corrections in (
-      c.in_ok-check_shape.ensures,
-      mended c.args.depth c.args.word c.args.row.now c.store_corrections.new.row c.gathered-octets.result found.places found.octets found.count
-          c.gathered-octets.ensures c.in_ok-corrections.ensures.0 c.in_ok-corrections.ensures.1
-          c.store_corrections.ensures.word c.store_corrections.ensures.others,
+    let woven = c.in_ok-woven.woven in
+    let before : List ℕ = c.args.row.now in
+    let after : List ℕ = c.store_corrections.new.row in
+    let word : List ℕ = c.gathered.result in
+    let found : List Correction = c.in_ok-corrections.corrections.items in
+    let searched : Corrects word found × Reached rs16 word (corrected found word) =
+    subst (Searches word) c.in_ok-corrections.ensures.ok_part c.search_word.ensures in
+    let made : Mended rs16 woven.depth woven.word (length found) before after =
+    mended woven.depth woven.word before after word found c.gathered.ensures searched.0 searched.1
+    (c.store_corrections.ensures.word ∙ ap (λ cs. corrected cs (word_of woven.depth woven.word before)) c.deref.ensures.0)
+    c.store_corrections.ensures.others in (
+      c.in_ok-woven.ensures.passed,
+      subst (λ n. Mended rs16 c.args.depth c.args.word n before after) (sym c.len.ensures.value)
+          (subst (λ d. Mended rs16 d c.args.word (length found) before after) c.in_ok-woven.ensures.same_depth
+          (subst (λ w. Mended rs16 woven.depth w (length found) before after) c.in_ok-woven.ensures.same_word made)),
     )
