@@ -1,6 +1,6 @@
 -- The two names of codes: they begin with different letters, so the first letter decides which is read.
 use Rattle.std.proofs.Common.{◌≡◌, ℕ, List, [], ◌∷◌, ◌++◌, codes, sym, refl, ◌∙◌, arith}
-use Rattle.sheet.specs.declared.form.CodeName.TheVariants.{Rs16, Bare}
+use Rattle.promise.specs.declared.kinds.CodeName.TheVariants.{Rs16, Bare}
 use Rattle.sheet.specs.Form.{code_word}
 use Rattle.sheet.specs.Language.{Just, Stops, StopsAt}
 use Rattle.sheet.specs.Reading.{SomeOf, CodeText}

@@ -1,7 +1,7 @@
 -- The parts of a form that are read one after the other.
 use Rattle.std.proofs.Common.{◌≡◌, ℕ, List, [], ◌∷◌, ◌++◌, Ok, Err, codes, decimal, Result, sym, refl, ap, ◌∙◌, ap₂, append_assoc, arith, Bor}
-use Rattle.sheet.specs.declared.form.CodeName.{CodeName}
-use Rattle.sheet.specs.declared.form.CodeName.TheVariants.{Rs16, Bare}
+use Rattle.promise.specs.declared.kinds.CodeName.{CodeName}
+use Rattle.promise.specs.declared.kinds.CodeName.TheVariants.{Rs16, Bare}
 use Rattle.sheet.specs.declared.stop.Stop.{Stop}
 use Rattle.sheet.specs.Form.{code_word}
 use Rattle.sheet.specs.Language.{Texts, Just, Then, StopsAt, Distinct}

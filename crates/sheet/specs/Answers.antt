@@ -1,7 +1,7 @@
 -- The text of the answers: one line for each line of the sheet.
 use Rattle.std.specs.Prelude.{◌≡◌, ℕ, ◌<◌, cond, List, [], ◌∷◌, ◌++◌, length, take, Ok, Err, codes, decimal, Result, ◌==◌}
 use Rattle.std.specs.List.{concat}
-use Rattle.sheet.specs.declared.figures.Quote.{Quote}
+use Rattle.promise.specs.declared.figures.Quote.{Quote}
 use Rattle.sheet.specs.declared.line.LineFault.{LineFault}
 use Rattle.sheet.specs.declared.line.LineFault.TheVariants.{Unfit, Refused}
 use Rattle.sheet.specs.Line.{LineQuoted, number}

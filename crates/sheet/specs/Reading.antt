@@ -1,7 +1,7 @@
 -- What each part of the reader answers.
 use Rattle.std.specs.Prelude.{◌≡◌, ℕ, ◌<◌, List, [], ◌∷◌, ◌++◌, Some, None, Ok, Err, codes, decimal, Option, Result}
 use Rattle.std.specs.Borrow.{Bor}
-use Rattle.sheet.specs.declared.form.CodeName.{CodeName}
+use Rattle.promise.specs.declared.kinds.CodeName.{CodeName}
 use Rattle.sheet.specs.declared.form.LinkForm.{LinkForm}
 use Rattle.sheet.specs.declared.stop.Sign.{Sign}
 use Rattle.sheet.specs.declared.stop.Sign.TheVariants.{Open, Close, Space}

@@ -1,11 +1,5 @@
 // What a line of the sheet asks for.
-
-// The codes that a form may name.
-#[derive(Clone, Copy, Debug, PartialEq, Eq)]
-pub enum CodeName {
-    Rs16,
-    Bare,
-}
+use promise::CodeName;
 
 // The form of a line: a code and five typed numbers, in the order in which the line has them.
 #[derive(Clone, Copy, Debug, PartialEq, Eq)]

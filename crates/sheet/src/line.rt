@@ -3,9 +3,10 @@ ghost use Rattle.std.specs.Prelude.{◌≡◌};
 ghost use Rattle.sheet.specs.Line.{FormRead, LineQuoted, number};
 ghost use Rattle.sheet.specs.declared.line.LineFault.TheVariants.{Unfit, Refused};
 
-use crate::figures::{Quote, quote_for};
+use crate::figures::quote_for;
 use crate::form::LinkForm;
 use crate::reader::form;
+use promise::Quote;
 use settings::{Settings, SettingsFault};
 
 // The place of the first octet that fits no form, or the line's length where it ends too soon.

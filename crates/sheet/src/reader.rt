@@ -2,8 +2,9 @@
 ghost use Rattle.std.specs.Prelude.{◌<◌, [], ◌∷◌, ◌++◌, decimal};
 ghost use Rattle.sheet.specs.Reading.{First, Passed, Read, sign_octet, opening_of, CodeText, ClosedNumber, NumberField, CodeField, FormText};
 
-use crate::form::{CodeName, LinkForm};
+use crate::form::LinkForm;
 use crate::stop::{Sign, Stop};
+use promise::CodeName;
 
 // The first octet, as a character, and the rest.
 fn first<'a>(line: &'a [u8]) -> Option<(char, &'a [u8])>
