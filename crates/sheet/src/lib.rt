@@ -6,7 +6,6 @@ mod figures;
 mod form;
 mod line;
 mod reader;
-mod stop;
 
 pub use answers::{answer_line, answer_sheet};
 pub use figures::quote_for;

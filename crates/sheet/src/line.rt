@@ -5,7 +5,7 @@ ghost use Rattle.sheet.specs.declared.line.LineFault.TheVariants.{Unfit, Refused
 
 use crate::figures::quote_for;
 use crate::form::LinkForm;
-use crate::reader::form;
+use crate::reader::Reader;
 use promise::Quote;
 use settings::{Settings, SettingsFault};
 
@@ -54,18 +54,11 @@ impl From<SettingsFault> for LineFault {
 pub fn read_form(line: &[u8]) -> Result<LinkForm, Misfit>
     ensures { FormRead line.now result }
 {
-    match form(line) {
-        Ok((found, rest)) => {
-            if rest.len() == 0 {
-                Ok(found)
-            } else {
-                Err(Misfit {
-                    place: line.len() - rest.len(),
-                })
-            }
-        }
-        Err(stop) => Err(Misfit {
-            place: line.len() - stop.at.len(),
+    let mut reader = Reader { rest: line };
+    match reader.form() {
+        Some(form) if reader.rest.is_empty() => Ok(form),
+        _ => Err(Misfit {
+            place: line.len() - reader.rest.len(),
         }),
     }
 }
