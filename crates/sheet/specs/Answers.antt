@@ -2,21 +2,20 @@
 use Rattle.std.specs.Prelude.{◌≡◌, ℕ, ◌<◌, cond, List, [], ◌∷◌, ◌++◌, length, take, Ok, Err, codes, decimal, Result, ◌==◌}
 use Rattle.std.specs.List.{concat}
 use Rattle.promise.specs.declared.figures.Quote.{Quote}
+use Rattle.promise.specs.Figures.{quote_text}
 use Rattle.sheet.specs.declared.line.LineFault.{LineFault}
 use Rattle.sheet.specs.declared.line.LineFault.TheVariants.{Unfit, Refused}
 use Rattle.sheet.specs.Line.{LineQuoted, number}
 
--- the line that tells a quote, or a refusal's number; with 18 goes the place
+-- a refusal's number in brackets; with 18 goes the place
+abbrev pub fault_text : LineFault → List ℕ
+fault_text (Unfit m) = concat (codes "(refused " ∷ decimal (number (Unfit m)) ∷ codes " at " ∷ decimal m.place ∷ codes ")" ∷ [])
+fault_text (Refused e) = concat (codes "(refused " ∷ decimal (number (Refused e)) ∷ codes ")" ∷ [])
+
+-- the line that tells a quote or a refusal
 abbrev pub answer_text : Result Quote LineFault → List ℕ
-answer_text (Ok q) = concat (
-    codes "(quote (frame " ∷ decimal q.frame
-    ∷ codes ") (block " ∷ decimal q.block
-    ∷ codes ") (fade " ∷ decimal q.fade
-    ∷ codes ") (resync " ∷ decimal q.resync
-    ∷ codes "))" ∷ []
-    )
-answer_text (Err (Unfit m)) = concat (codes "(refused " ∷ decimal (number (Unfit m)) ∷ codes " at " ∷ decimal m.place ∷ codes ")" ∷ [])
-answer_text (Err (Refused e)) = concat (codes "(refused " ∷ decimal (number (Refused e)) ∷ codes ")" ∷ [])
+answer_text (Ok q) = quote_text q
+answer_text (Err fault) = fault_text fault
 
 -- what a line is answered
 pub record AnswerTo (line answer : List ℕ) : Type 0 where

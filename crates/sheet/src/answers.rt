@@ -2,7 +2,7 @@
 ghost use Rattle.std.specs.Prelude.{IfOk, string_bytes};
 ghost use Rattle.sheet.specs.Answers.{AnswerTo, AnswersTo, FirstLine};
 
-use crate::line::{LineFault, quote_line};
+use crate::line::quote_line;
 use std::alloc::{AllocError, Global};
 
 // The octets of a sheet that are read.
@@ -13,25 +13,8 @@ pub fn answer_line(heap: Global, line: &[u8]) -> Result<String, AllocError>
     ensures { IfOk result (λ s. AnswerTo line.now (string_bytes s)) }
 {
     match quote_line(line) {
-        Ok(quote) => {
-            let frame = quote.frame;
-            let block = quote.block;
-            let fade = quote.fade;
-            let resync = quote.resync;
-            format!(in heap;
-                "(quote (frame {frame}) (block {block}) (fade {fade}) (resync {resync}))"
-            )
-        }
-        Err(fault) => {
-            let number = fault.number();
-            match fault {
-                LineFault::Unfit(misfit) => {
-                    let place = misfit.place;
-                    format!(in heap; "(refused {number} at {place})")
-                }
-                LineFault::Refused(_) => format!(in heap; "(refused {number})"),
-            }
-        }
+        Ok(quote) => quote.to_string(heap),
+        Err(fault) => fault.to_string(heap),
     }
 }
 

@@ -1,5 +1,6 @@
 // The reader of a line: each part is taken off the front of what is left, or what is left stays where it stops fitting.
-ghost use Rattle.sheet.specs.Reading.{Passed, Read, CodeText, DigitRead, DigitsRead, ClosedNumber, NumberField, CodeField, FormText};
+ghost use Rattle.std.specs.Prelude.{[], ◌∷◌};
+ghost use Rattle.sheet.specs.Reading.{closes, Passed, Read, CodeText, DigitRead, DigitsRead, ClosedNumber, NumberField, CodeField, FormText};
 
 use crate::form::LinkForm;
 use promise::CodeName;
@@ -24,6 +25,13 @@ impl<'a> Reader<'a> {
             self.rest = after;
         }
         Some(())
+    }
+
+    // The bracket that ends a part.
+    fn close(&mut self) -> Option<()>
+        ensures { Passed (closes ∷ []) self.old.rest.now result self.new.rest.now }
+    {
+        self.word(b")")
     }
 
     // The name of a code; they begin with different letters.
@@ -68,7 +76,7 @@ impl<'a> Reader<'a> {
         ensures { Read ClosedNumber self.old.rest.now result self.new.rest.now }
     {
         let number = self.digits()?;
-        self.word(b")")?;
+        self.close()?;
         Some(number)
     }
 
@@ -88,7 +96,7 @@ impl<'a> Reader<'a> {
     {
         self.word(b"(link (code ")?;
         let code = self.code_name()?;
-        self.word(b")")?;
+        self.close()?;
         Some(code)
     }
 
@@ -102,7 +110,7 @@ impl<'a> Reader<'a> {
         let rows = self.number_field(b"rows")?;
         let subframe_rows = self.number_field(b"sub")?;
         let miss_limit = self.number_field(b"misses")?;
-        self.word(b")")?;
+        self.close()?;
         Some(LinkForm {
             code,
             depth,

@@ -44,18 +44,18 @@ returns-in_err-miss_limit c =
     (past_number (codes "sub") BehindSub _ _ _ _ c.in_ok-subframe_rows.ensures
     (in_number (codes "misses") BehindMisses (41 ∷ [], refl) _ _ c.in_err-miss_limit.ensures))))))
 
-pub returns-in_err-word : goal.returns-in_err-word
-returns-in_err-word c =
-    rw c.from_residual-in_err-word.ensures
+pub returns-in_err-close : goal.returns-in_err-close
+returns-in_err-close c =
+    rw c.from_residual-in_err-close.ensures
     (past_code _ _ _ _ c.in_ok-code.ensures
     (past_number (codes "depth") BehindDepth _ _ _ _ c.in_ok-depth.ensures
     (past_number (codes "symbol") BehindSymbol _ _ _ _ c.in_ok-symbol.ensures
     (past_number (codes "rows") BehindRows _ _ _ _ c.in_ok-rows.ensures
     (past_number (codes "sub") BehindSub _ _ _ _ c.in_ok-subframe_rows.ensures
     (past_number (codes "misses") BehindMisses _ _ _ _ c.in_ok-miss_limit.ensures
-    c.in_err-word.ensures))))))
+    c.in_err-close.ensures))))))
 
 pub returns : goal.returns
 returns c =
     form_read _ _ _ _ _ _ _ _ _
-    c.in_ok-code.ensures c.in_ok-depth.ensures c.in_ok-symbol.ensures c.in_ok-rows.ensures c.in_ok-subframe_rows.ensures c.in_ok-miss_limit.ensures c.in_ok-word.ensures
+    c.in_ok-code.ensures c.in_ok-depth.ensures c.in_ok-symbol.ensures c.in_ok-rows.ensures c.in_ok-subframe_rows.ensures c.in_ok-miss_limit.ensures c.in_ok-close.ensures
