@@ -47,7 +47,3 @@ sheet_limit = 65536
 
 abbrev pub AnswersTo : List ℕ → List ℕ → Type 0
 AnswersTo sheet out = AnswersEach (lines_of (take sheet_limit sheet)) out
-
--- The sheet's first line and what is behind its line feed. It serves the proof of the walk over the lines.
-abbrev pub FirstLine : List ℕ → List ℕ → List ℕ → Type 0
-FirstLine sheet line rest = 0 < length sheet → (lines_of sheet ≡ line ∷ lines_of rest) × (length rest < length sheet)
