@@ -1,10 +1,13 @@
 -- The lines of a sheet, taken off its front one after the other.
-use Rattle.std.proofs.Common.{◌≡◌, ◌≢◌, ℕ, zero, suc, ◌+◌, ◌<◌, min, ◌==◌, List, [], ◌∷◌, ◌++◌, length, get_or, take, Option, Some, None, MatchOption, unwrap_or, Bor, sym, refl, ap, ◌∙◌, subst, inl, inr, append_assoc, append-nil, arith, length-append, take_all}
+use Rattle.std.proofs.Common.{◌≡◌, ◌≢◌, ℕ, zero, suc, ◌+◌, ◌<◌, min, ◌==◌, List, [], ◌∷◌, ◌++◌, length, get_or, take, Option, Some, None, MatchOption, IfSome, option_map, unwrap_or, Bor, sym, refl, ap, ◌∙◌, ap₂, subst, inl, inr, append_assoc, append-nil, arith, length-append, take_all}
+use Rattle.std.specs.Io.KnownBytes.{Appends}
+use Rattle.std.specs.declared.io.Take.{Take}
+use Rattle.std.specs.Io.Take.{take_limit, take_inner, take_remaining}
 use Rattle.std.specs.List.{IsFirstMatchOrLen}
 use Rattle.std.proofs.lemmas.Bool.{ne_eqb, eqb-true, true≢false, cases_lt}
-use Rattle.std.proofs.lemmas.List.{take_at, take_more}
+use Rattle.std.proofs.lemmas.List.{length-take, take_at, take_more}
 use Rattle.sheet.proofs.Language.{none_left}
-use Rattle.sheet.specs.Answers.{line_feed, onto, lines_of, AnswerTo, AnswersEach}
+use Rattle.sheet.specs.Answers.{line_feed, onto, lines_of, sheet_limit, AnswerTo, AnswersEach, AnswersTo, AnswersInput}
 
 -- no octet is a line feed
 abbrev NoFeed : List ℕ → Type 0
@@ -102,3 +105,20 @@ completes_more sheet rest line after answers answer next c some first a e more m
 pub completes_all : (sheet rest answers : List ℕ) → Completes sheet rest answers → length rest ≡ 0 → AnswersEach (lines_of sheet) answers
 completes_all sheet [] answers c none = let P : List ℕ → Type 0 = AnswersEach (lines_of sheet) in let Q : List (List ℕ) → Type 0 = λ ls. AnswersEach ls [] in subst P (append-nil answers) (c [] (subst Q (sym lines_none) refl))
 completes_all sheet (x ∷ rest) answers c none = absurd (omega arith)
+
+-- ---- what is read and written
+
+-- the answers to what is read of a sheet are those to the sheet
+pub answers_input : (input before after : Option (List ℕ)) (read answers : List ℕ) → IfSome (option_map (take sheet_limit) input) (λ xs. read ≡ xs) → AnswersTo read answers
+    → Appends before after answers → AnswersInput input before after
+answers_input None before after read answers known a more = tt
+answers_input (Some sheet) before after read answers known a more =
+    let once : take sheet_limit read ≡ take sheet_limit sheet = ap (take sheet_limit) known ∙ take_all sheet_limit (take sheet_limit sheet) (omega (arith, length-take sheet_limit sheet)) in
+    (answers, subst (λ l. AnswersEach (lines_of l) answers) once a, more)
+
+-- of a reader with a limit, whose octets are known, all are read up to the limit
+pub read_known : {R : Type 0} (remaining : R → Option (List ℕ)) (t : Take R) (input : R) (start read : List ℕ) → take_limit t ≡ sheet_limit → take_inner t ≡ input → start ≡ []
+    → IfSome (take_remaining remaining t) (λ xs. read ≡ start ++ xs) → IfSome (option_map (take sheet_limit) (remaining input)) (λ xs. read ≡ xs)
+read_known remaining t input start read limit inner none h =
+    let same : take_remaining remaining t ≡ option_map (take sheet_limit) (remaining input) = ap₂ (λ n r. option_map (take n) (remaining r)) limit inner in
+    subst (λ o. IfSome o (λ xs. read ≡ xs)) same (subst (λ u. IfSome (take_remaining remaining t) (λ xs. read ≡ u ++ xs)) none h)

@@ -1,5 +1,6 @@
 -- The text of the answers: one line for each line of the sheet.
-use Rattle.std.specs.Prelude.{◌≡◌, ℕ, ◌<◌, cond, List, [], ◌∷◌, ◌++◌, length, take, Ok, Err, codes, decimal, Result, ◌==◌}
+use Rattle.std.specs.Prelude.{◌≡◌, ℕ, cond, List, [], ◌∷◌, ◌++◌, take, Option, Some, None, Ok, Err, codes, decimal, Result, ◌==◌}
+use Rattle.std.specs.Io.KnownBytes.{Appends}
 use Rattle.std.specs.List.{concat}
 use Rattle.promise.specs.declared.figures.Quote.{Quote}
 use Rattle.promise.specs.Figures.{quote_text}
@@ -47,3 +48,8 @@ sheet_limit = 65536
 
 abbrev pub AnswersTo : List ℕ → List ℕ → Type 0
 AnswersTo sheet out = AnswersEach (lines_of (take sheet_limit sheet)) out
+
+-- Where the octets of the input are known, those that the output gains are the answers to them.
+abbrev pub AnswersInput : Option (List ℕ) → Option (List ℕ) → Option (List ℕ) → Type 0
+AnswersInput None before after = Unit {0}
+AnswersInput (Some sheet) before after = (answers : List ℕ) × AnswersTo sheet answers × Appends before after answers

@@ -7,7 +7,7 @@ mod form;
 mod line;
 mod reader;
 
-pub use answers::{answer_line, answer_sheet};
+pub use answers::{answer_input, answer_line, answer_sheet};
 pub use figures::quote_for;
 pub use form::LinkForm;
 pub use line::{LineFault, Misfit, quote_line, read_form};
