@@ -6,7 +6,7 @@ use Rattle.std.specs.Io.Take.{take_limit, take_inner, take_remaining}
 use Rattle.std.specs.List.{IsFirstMatchOrLen}
 use Rattle.std.proofs.lemmas.Bool.{ne_eqb, eqb-true, true≢false, cases_lt}
 use Rattle.std.proofs.lemmas.List.{length-take, take_at, take_more}
-use Rattle.sheet.proofs.Language.{none_left}
+use Rattle.std.proofs.lemmas.List.{nil_from_length}
 use Rattle.sheet.specs.Answers.{line_feed, onto, lines_of, sheet_limit, AnswerTo, AnswersEach, AnswersTo, AnswersInput}
 
 -- no octet is a line feed
@@ -68,7 +68,7 @@ piece_unfed sheet piece rest place p unfed some = elim (cases_lt place (length s
       absurd (unfed (take place sheet) (sym (take_at piece rest (place + 1) (omega (arith, p.size))) ∙ (ap (take (place + 1)) (sym p.cut) ∙ (take_more sheet place 0 fed ∙ ap (λ x. take place sheet ++ (x ∷ [])) here))))
   | inr last ↦
       let size : length sheet ≡ length piece + length rest = ap length p.cut ∙ length-append piece rest in
-      let none : rest ≡ [] = none_left rest (omega (arith, p.size)) in
+      let none : rest ≡ [] = nil_from_length rest (omega (arith, p.size)) in
       let whole : sheet ≡ piece = p.cut ∙ (ap (λ u. piece ++ u) none ∙ append-nil piece) in
       let calm : NoFeed sheet = subst (λ u. NoFeed u) (take_all (length sheet) sheet (omega arith)) (no_feed_before sheet (length sheet) (λ k low. unfed_before sheet piece rest place p k (omega arith))) in
       (lines_last sheet some calm ∙ (ap (λ u. u ∷ lines_of []) whole ∙ ap (λ u. piece ∷ lines_of u) (sym none)), omega (arith, p.size))

@@ -169,10 +169,6 @@ no_number line n = number_none line (blocked line n)
 
 -- ---- what is read
 
-pub closed_here : (n : ℕ) (line rest after : List ℕ) → DigitsTaken line n rest → rest ≡ 41 ∷ after → (t : List ℕ) × ClosedNumber n t × (line ≡ t ++ after)
-closed_here n line rest after d is =
-    (decimal n ++ (41 ∷ []), (d.typed, refl), d.cut ∙ (ap (λ u. decimal n ++ u) is ∙ sym (append_assoc (decimal n) (41 ∷ []) after)))
-
 pub closed_distinct : Distinct (SomeOf ClosedNumber)
 closed_distinct a b y z p q e =
     let joined : decimal p.0 ++ (41 ∷ y) ≡ decimal q.0 ++ (41 ∷ z) =

@@ -4,7 +4,7 @@ use Rattle.promise.specs.declared.kinds.CodeName.{CodeName}
 use Rattle.promise.specs.declared.kinds.CodeName.TheVariants.{Rs16, Bare}
 use Rattle.sheet.specs.Form.{code_word}
 use Rattle.sheet.specs.Language.{Texts, Just, Then, StopsAt, Distinct}
-use Rattle.sheet.specs.Reading.{opening_of, SomeOf, Read, CodeText, ClosedNumber, field_text, NumberField, code_field_text, CodeField}
+use Rattle.sheet.specs.Reading.{opening_of, SomeOf, Read, CodeText, ClosedNumber, field_text, NumberField, CodeField}
 use Rattle.sheet.proofs.Language.{Behind, behind_stops, beginning_stops, behind_distinct, stops_at_alike, stops_at_in_first, stops_at_in_second, just_distinct, then_distinct}
 use Rattle.sheet.proofs.Numbers.{closed_distinct}
 
@@ -98,8 +98,3 @@ pub code_bracket_stops : (line rest after at t : List ℕ) (code : CodeName) →
     → StopsAt (SomeOf CodeField) line at
 code_bracket_stops line rest after at t code e is f s =
     stops_as_code line at (behind_stops code_front Closed line rest at e (stops_at_in_second (SomeOf CodeText) (Just (41 ∷ [])) names_distinct rest t after at f (code, is) s))
-
-pub code_read : (line rest after last t : List ℕ) (code : CodeName) → line ≡ code_front ++ rest → CodeText code t → rest ≡ t ++ after → after ≡ 41 ∷ last
-    → (u : List ℕ) × CodeField code u × (line ≡ u ++ last)
-code_read line rest after last t code e is f g =
-    (code_field_text code, refl, e ∙ ap (λ u. code_front ++ u) (f ∙ (ap₂ (λ u v. u ++ v) is g ∙ sym (append_assoc (code_word code) (41 ∷ []) last))))
