@@ -6,3 +6,4 @@ pub mod Figures
 pub mod Quotes
 pub mod Kinds
 pub mod Bench
+pub mod Example

@@ -7,7 +7,7 @@ use Rattle.mapping.specs.Answers.{fade_answer}
 use Rattle.mapping.specs.Meaning.{MappingMeaning, MappingLaws}
 use Rattle.link.specs.Refusal.{mapping_fits}
 use Rattle.promise.specs.declared.figures.Quote.{Quote}
-use Rattle.promise.specs.Quotes.{figures, Quoted, Quotes}
+use Rattle.promise.specs.Quotes.{figures, Quotes}
 use Rattle.promise.proofs.Promise.{link_promise}
 use Rattle.promise.proofs.quoting.quote.Goals as goal
 
