@@ -25,3 +25,4 @@ pub mod Waits
 pub mod Ride
 pub mod Promise
 pub mod Bench
+pub mod Example

@@ -10,4 +10,4 @@ mod theorems;
 pub use figures::Quote;
 pub use kinds::{CodeName, Interleaver};
 pub use links::quote_link;
-pub use theorems::bench_values_stand;
+pub use theorems::{bench_values_stand, promise_applies};

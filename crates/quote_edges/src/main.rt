@@ -1,12 +1,9 @@
 // The program quote on a sheet of edges: its stdin has the ends of every range, spoiled forms and odd octets.
 #![tactic(auto)]
 
-use sheet::answer_sheet;
+use sheet::answer_input;
 use std::io;
-use std::io::Read;
 
 fn main(rt: HostRuntime) -> io::Result<()> {
-    let mut sheet = Vec::new(rt.alloc());
-    rt.stdin().take(65_536).read_to_end(&mut sheet)?;
-    rt.print(answer_sheet(rt.alloc(), sheet.as_slice())?)
+    answer_input(rt.alloc(), rt.stdin(), &mut io::writer(&rt))
 }

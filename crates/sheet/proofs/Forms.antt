@@ -1,6 +1,6 @@
 -- A whole form: its parts one after the other.
 use Rattle.std.proofs.Common.{◌≡◌, ℕ, ◌<◌, List, [], ◌∷◌, ◌++◌, codes, sym, refl, ap, ◌∙◌, ap₂, append_assoc, arith}
-use Rattle.sheet.specs.declared.form.CodeName.{CodeName}
+use Rattle.promise.specs.declared.kinds.CodeName.{CodeName}
 use Rattle.sheet.specs.declared.form.LinkForm.{LinkForm}
 use Rattle.sheet.specs.Form.{typed_limit, text}
 use Rattle.sheet.specs.Language.{Texts, Just, Then, StopsAt, Distinct}

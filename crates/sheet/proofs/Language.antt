@@ -1,17 +1,7 @@
 -- Reading one part after another: where the whole stops, from where its parts do.
-use Rattle.std.proofs.Common.{◌≡◌, ℕ, suc, ◌-◌, ◌<◌, List, [], ◌∷◌, ◌++◌, length, get_or, take, drop, sym, refl, ap, ◌∙◌, append_assoc, arith}
+use Rattle.std.proofs.Common.{◌≡◌, ℕ, List, [], ◌∷◌, ◌++◌, sym, refl, ap, ◌∙◌, append_assoc}
 use mathlib.Core.List.{append_cancel_left}
-use lib.Seq.{take-length}
 use Rattle.sheet.specs.Language.{Texts, Just, Then, Stops, StopsAt, Distinct}
-
--- a list that is not empty is its first element and the rest, as a slice gives it
-pub uncons : (xs : List ℕ) (x : ℕ) → 0 < length xs → x ≡ get_or xs 0 0 → xs ≡ x ∷ take (length xs - 1) (drop 1 xs)
-uncons [] x h e = absurd (omega arith)
-uncons (y ∷ xs) x h e = let n : suc (length xs) - 1 ≡ length xs = omega arith in rw (e, n, take-length xs)
-
-pub none_left : (xs : List ℕ) → length xs ≡ 0 → xs ≡ []
-none_left [] h = refl
-none_left (x ∷ xs) h = absurd (omega arith)
 
 -- one text stands for one text
 pub just_distinct : (w : List ℕ) → Distinct (Just w)

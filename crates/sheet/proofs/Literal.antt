@@ -1,6 +1,6 @@
 -- Reading the one text of a literal, octet by octet.
-use Rattle.std.proofs.Common.{◌≡◌, ℕ, ◌+◌, ◌<◌, List, [], ◌∷◌, ◌++◌, length, get_or, take, drop, sym, ap, ◌∙◌, subst, append_assoc, arith, length-append, take-append-drop}
-use Rattle.std.proofs.lemmas.List.{get_or_at, get_or_append_left, length-take-le, take_more}
+use Rattle.std.proofs.Common.{◌≡◌, ℕ, ◌+◌, ◌<◌, List, [], ◌∷◌, ◌++◌, length, get_or, take, drop, sym, ap, ◌∙◌, subst, arith, length-append, take-append-drop}
+use Rattle.std.proofs.lemmas.List.{get_or_at, get_or_append_left, length-take-le}
 use Rattle.sheet.specs.Language.{Just, Stops, StopsAt}
 
 -- the line ends inside the literal, or goes on with another octet than the next of the literal
@@ -27,8 +27,3 @@ ends_inside w line rest i h e none =
 pub other_inside : (w line rest : List ℕ) (i x : ℕ) (after : List ℕ) → i < length w → line ≡ take i w ++ rest → rest ≡ x ∷ after → (x ≡ get_or w i 0 → ⊥) → StopsAt (Just w) line rest
 other_inside w line rest i x after h e here o =
     let P : List ℕ → Type 0 = λ r. Other r (get_or w i 0) in literal_stops w line rest i h e (subst P (sym here) o)
-
--- one octet of the literal more
-pub literal_more : (w line rest : List ℕ) (i x : ℕ) (after : List ℕ) → i < length w → line ≡ take i w ++ rest → rest ≡ x ∷ after → x ≡ get_or w i 0 → line ≡ take (i + 1) w ++ after
-literal_more w line rest i x after h e here same =
-    e ∙ (ap (λ r. take i w ++ r) (here ∙ ap (λ y. y ∷ after) same) ∙ (sym (append_assoc (take i w) (get_or w i 0 ∷ []) after) ∙ sym (ap (λ u. u ++ after) (take_more w i 0 h))))

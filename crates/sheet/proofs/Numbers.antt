@@ -1,16 +1,14 @@
 -- Typed numbers behind which a bracket stands: no such text begins another, and where reading one stops.
-use Rattle.std.proofs.Common.{◌≡◌, ℕ, ◌+◌, ◌-◌, ◌*◌, ◌/◌, ◌%◌, ◌^◌, ◌<◌, ◌≤◌, ◌⊎◌, List, [], ◌∷◌, ◌++◌, length, get_or, decimal, sym, refl, ap, ◌∙◌, subst, inl, inr, append_assoc, pow-suc, add-one, arith, length-append}
+use Rattle.std.proofs.Common.{◌≡◌, ℕ, zero, suc, ◌+◌, ◌*◌, ◌/◌, ◌%◌, ◌^◌, ◌<◌, ◌≤◌, ◌⊎◌, List, [], ◌∷◌, ◌++◌, length, get_or, decimal, sym, refl, ap, ◌∙◌, subst, inl, inr, append_assoc, pow-suc, arith, length-append}
 use native.Mathlib.Nat.{pow-le-pow_right}
+use Rattle.std.proofs.Math.Nat.{div-add-mod}
 use Rattle.std.proofs.lemmas.Nat.{div-mul-add, mod-mul-add, mod_below}
 use Rattle.std.proofs.lemmas.Fmt.{decimal_digit, decimal_step, decimal_by_steps, decimal_nonempty, first_decimal, length-decimal-le}
 use Rattle.std.proofs.lemmas.List.{get_or_append_left}
 use Rattle.std.proofs.lemmas.Bool.{cases_lt}
 use Rattle.sheet.specs.Form.{typed_limit}
 use Rattle.sheet.specs.Language.{Distinct, Just, Stops, StopsAt}
-use Rattle.sheet.specs.Reading.{SomeOf, ClosedNumber}
-
-abbrev pub Digit : ℕ → Type 0
-Digit d = (48 ≤ d) × (d ≤ 57)
+use Rattle.sheet.specs.Reading.{SomeOf, Digit, NoDigit, DigitsTaken, ClosedNumber}
 
 abbrev AllDigits : List ℕ → Type 0
 AllDigits [] = Unit {0}
@@ -85,24 +83,18 @@ number_stops n whole rest h e b = record {
   stops = blocked_stops (decimal n) rest (digits_of n (omega arith)) b;
 }
 
-pub number_ends : (n : ℕ) (whole rest : List ℕ) → n < typed_limit → whole ≡ decimal n ++ rest → rest ≡ [] → StopsAt (SomeOf ClosedNumber) whole rest
-number_ends n whole rest h e none =
-    let P : List ℕ → Type 0 = Blocked (decimal n) in number_stops n whole rest h e (subst P (sym none) tt)
-
--- the octet behind the digits is no digit and no bracket
-pub number_other : (n : ℕ) (whole rest : List ℕ) (x : ℕ) (after : List ℕ) → n < typed_limit → whole ≡ decimal n ++ rest → rest ≡ x ∷ after
-    → (Digit x → ⊥) → (x ≡ 41 → ⊥) → StopsAt (SomeOf ClosedNumber) whole rest
-number_other n whole rest x after h e is no_digit no-close =
-    let P : List ℕ → Type 0 = Blocked (decimal n) in
-    number_stops n whole rest h e (subst P (sym is) (λ m y z few f. elim (meets (decimal m) (decimal n) y z x (digits_of m (omega arith)) (digits_of n (omega arith)) f) [ inl d ↦ no_digit d | inr c ↦ no-close c ]))
+-- behind digits only another digit or the bracket fits
+other_blocks : (n : ℕ) → n < typed_limit → (x : ℕ) (rest : List ℕ) → (Digit x → ⊥) → (x ≡ 41 → ⊥) → Blocked (decimal n) (x ∷ rest)
+other_blocks n h x rest no_digit no-close m y z few f =
+    elim (meets (decimal m) (decimal n) y z x (digits_of m (omega arith)) (digits_of n (omega arith)) f) [ inl d ↦ no_digit d | inr c ↦ no-close c ]
 
 -- behind five digits only the bracket fits
-pub five_digits_block : (n : ℕ) → n < typed_limit → length (decimal n) ≡ 5 → (x : ℕ) (rest : List ℕ) → (x ≡ 41 → ⊥) → Blocked (decimal n) (x ∷ rest)
+five_digits_block : (n : ℕ) → n < typed_limit → 4 < length (decimal n) → (x : ℕ) (rest : List ℕ) → (x ≡ 41 → ⊥) → Blocked (decimal n) (x ∷ rest)
 five_digits_block n h five x rest no-close m y z few f =
     no-close (meets_short (decimal m) (decimal n) y z x (digits_of n (omega arith)) (omega (arith, length-decimal-le 5 m (omega arith) few (omega arith))) f)
 
 -- and behind a leading 0
-pub zero_blocks : (x : ℕ) (rest : List ℕ) → (x ≡ 41 → ⊥) → Blocked (decimal 0) (x ∷ rest)
+zero_blocks : (x : ℕ) (rest : List ℕ) → (x ≡ 41 → ⊥) → Blocked (decimal 0) (x ∷ rest)
 zero_blocks x rest no-close m y z few f = elim (cases_lt m 10) [
   | inl small ↦ no-close (meets_short (decimal m) (decimal 0) y z x (digits_of 0 (omega arith)) (omega (arith, ap length (decimal_digit m small), ap length (decimal_digit 0 (omega arith)))) f)
   | inr large ↦
@@ -127,18 +119,32 @@ no_bracket_there rest (x ∷ at) (y ∷ []) more b e st = let same : y ≡ 41 = 
 no_bracket_there rest [] (y ∷ w ∷ fit) more b e st = let z : ◌≡◌ {A = ℕ} 0 1 = cc in absurd (omega arith)
 no_bracket_there rest (x ∷ at) (y ∷ w ∷ fit) more b e st = let z : ◌≡◌ {A = ℕ} 0 1 = cc in absurd (omega arith)
 
--- digits are read behind which only a bracket fits, and it is not there
-pub number_unclosed : (n : ℕ) (whole rest at : List ℕ) → n < typed_limit → whole ≡ decimal n ++ rest
-    → ((x : ℕ) (after : List ℕ) → (x ≡ 41 → ⊥) → Blocked (decimal n) (x ∷ after)) → StopsAt (Just (41 ∷ [])) rest at
-    → StopsAt (SomeOf ClosedNumber) whole at
-number_unclosed n whole rest at h e only s =
+-- a number of that many digits
+digits_above : (k n : ℕ) → n < 2 ^ 64 → 10 ^ k ≤ n → k < length (decimal n)
+digits_above zero n h low = decimal_nonempty n h
+digits_above (suc k) n h low =
+    let low' : 10 ^ k * 10 ≤ n = omega (arith, pow-suc 10 k) in
+    let some : 1 ≤ 10 ^ k = pow-le-pow_right {n = 10} (omega arith) {i = 0} {j = k} (omega arith) in
+    let fewer : 10 ^ k ≤ n / 10 = omega (arith, div-add-mod n 10, mod_below n 10 (omega arith)) in
+    omega (arith, digits_above k (n / 10) (omega arith) fewer, ap length (decimal_step n (omega arith) h) ∙ length-append (decimal (n / 10)) ((48 + n % 10) ∷ []))
+
+-- behind all the digits of a typed number only a bracket fits
+only_bracket : (n : ℕ) (rest : List ℕ) → n < typed_limit → (0 < n → n < 10000 → NoDigit rest) → NoBracket rest → Blocked (decimal n) rest
+only_bracket n [] h all_taken b = tt
+only_bracket n (x ∷ rest) h all_taken b = elim (cases_lt 0 n) [
+  | inr none ↦ let zero : 0 ≡ n = omega arith in subst (λ k. Blocked (decimal k) (x ∷ rest)) zero (zero_blocks x rest b)
+  | inl some ↦ elim (cases_lt n 10000) [
+    | inl short ↦ other_blocks n h x rest (all_taken some short) b
+    | inr five ↦ five_digits_block n h (digits_above 4 n (omega arith) five) x rest b
+  ]
+]
+
+-- the digits are read, and there is no bracket behind them
+pub number_unclosed : (n : ℕ) (line rest at : List ℕ) → DigitsTaken line n rest → StopsAt (Just (41 ∷ [])) rest at → StopsAt (SomeOf ClosedNumber) line at
+number_unclosed n line rest at d s =
     let p = no_bracket_there rest at s.fit s.rest s.begins s.cut s.stops in
-    let P : List ℕ → Type 0 = λ u. StopsAt (SomeOf ClosedNumber) whole u in
-    subst P p.0 (number_stops n whole rest h e (blocked rest p.1))
-  where
-    blocked : (u : List ℕ) → NoBracket u → Blocked (decimal n) u
-    blocked [] b = tt
-    blocked (x ∷ u) b = only x u b
+    let P : List ℕ → Type 0 = StopsAt (SomeOf ClosedNumber) line in
+    subst P p.0 (number_stops n line rest d.typed d.cut (only_bracket n rest d.typed d.all_taken p.1))
 
 -- nothing is read yet: the line is empty, or its first octet is no digit
 number_none : (line : List ℕ) → Blocked [] line → StopsAt (SomeOf ClosedNumber) line line
@@ -150,24 +156,18 @@ number_none line b = record {
   stops = blocked_stops [] line tt b;
 }
 
-pub number_missing : (line : List ℕ) → line ≡ [] → StopsAt (SomeOf ClosedNumber) line line
-number_missing line e = let P : List ℕ → Type 0 = Blocked [] in number_none line (subst P (sym e) tt)
-
-pub no_number : (line : List ℕ) (x : ℕ) (rest : List ℕ) → line ≡ x ∷ rest → (Digit x → ⊥) → StopsAt (SomeOf ClosedNumber) line line
-no_number line x rest e no_digit =
-    let P : List ℕ → Type 0 = Blocked [] in
-    number_none line (subst P (sym e) (λ m y z few f. starts (decimal m) y z (digits_of m (omega arith)) (decimal_nonempty m (omega arith)) f))
+pub no_number : (line : List ℕ) → NoDigit line → StopsAt (SomeOf ClosedNumber) line line
+no_number line n = number_none line (blocked line n)
   where
-    starts : (ds y z : List ℕ) → AllDigits ds → 0 < length ds → ds ++ (41 ∷ y) ≡ x ∷ z → ⊥
-    starts [] y z a some f = omega arith
-    starts (d ∷ ds) y z a some f = let same : d ≡ x = cc in let Q : ℕ → Type 0 = Digit in no_digit (subst Q same a.0)
+    starts : (x : ℕ) → (Digit x → ⊥) → (ds y z : List ℕ) → AllDigits ds → 0 < length ds → ds ++ (41 ∷ y) ≡ x ∷ z → ⊥
+    starts x no_digit [] y z a some f = omega arith
+    starts x no_digit (d ∷ ds) y z a some f = let same : d ≡ x = cc in let Q : ℕ → Type 0 = Digit in no_digit (subst Q same a.0)
+
+    blocked : (u : List ℕ) → NoDigit u → Blocked [] u
+    blocked [] none = tt
+    blocked (x ∷ u) none = λ m y z few f. starts x none (decimal m) y z (digits_of m (omega arith)) (decimal_nonempty m (omega arith)) f
 
 -- ---- what is read
-
-pub closed_here : (n : ℕ) (whole rest after : List ℕ) → n < typed_limit → whole ≡ decimal n ++ rest → rest ≡ 41 ∷ after
-    → (t : List ℕ) × ClosedNumber n t × (whole ≡ t ++ after)
-closed_here n whole rest after h e is =
-    (decimal n ++ (41 ∷ []), (h, refl), e ∙ (ap (λ u. decimal n ++ u) is ∙ sym (append_assoc (decimal n) (41 ∷ []) after)))
 
 pub closed_distinct : Distinct (SomeOf ClosedNumber)
 closed_distinct a b y z p q e =
@@ -180,19 +180,28 @@ closed_distinct a b y z p q e =
 
 -- ---- the loop over the digits
 
--- a number of at most five digits is one that can be typed
-pub few_digits : (n i : ℕ) → i ≤ 4 → n < 10 ^ (i + 1) → n < typed_limit
-few_digits n i h small = omega (arith, pow-le-pow_right {n = 10} (omega arith) {i = i + 1} {j = 5} (omega arith))
+-- What it keeps: the digits so far are those of the value, and no more than five.
+pub record DigitsSoFar (line : List ℕ) (n : ℕ) (rest : List ℕ) : Type 0 where
+  pub cut : line ≡ decimal n ++ rest
+  pub typed : n < typed_limit
 
--- one digit more, of a number that has i + 1
-pub digits_more : (n d i : ℕ) → i ≤ 3 → 0 < n → 48 ≤ d → d ≤ 57 → n < 10 ^ (i + 1) → length (decimal n) ≡ i + 1
-    → (decimal (n * 10 + (d - 48)) ≡ decimal n ++ (d ∷ [])) × (n * 10 + (d - 48) < 10 ^ (i + 1 + 1)) × (length (decimal (n * 10 + (d - 48))) ≡ i + 1 + 1)
-digits_more n d i h some low high small len =
-    let back : 48 + (d - 48) ≡ d = omega arith in
-    let step : decimal (n * 10 + (d - 48)) ≡ decimal n ++ (d ∷ []) = decimal_more n (d - 48) some (omega arith) (few_digits n i (omega arith) small) ∙ ap (λ u. decimal n ++ (u ∷ [])) back in
-    let power : 10 ^ (i + 1 + 1) ≡ 10 ^ (i + 1) * 10 = ap (λ u. 10 ^ u) (add-one (i + 1)) ∙ pow-suc 10 (i + 1) in
-    (step, omega arith, ap length step ∙ (length-append (decimal n) (d ∷ []) ∙ omega arith))
+pub digits_begin : (line rest : List ℕ) (d : ℕ) → d < 10 → line ≡ (48 + d) ∷ rest → DigitsSoFar line d rest
+digits_begin line rest d h e = record { cut = e ∙ sym (ap (λ u. u ++ rest) (decimal_digit d h)); typed = omega arith }
 
--- a line that begins with a digit begins with the number of that digit
-pub digit_first : (line rest : List ℕ) (x d : ℕ) → line ≡ x ∷ rest → d < 10 → 48 + d ≡ x → line ≡ decimal d ++ rest
-digit_first line rest x d e h is = e ∙ (ap (λ u. u ∷ rest) (sym is) ∙ sym (ap (λ u. u ++ rest) (decimal_digit d h)))
+-- one digit more
+pub digits_more : (line rest after : List ℕ) (n d : ℕ) → 0 < n → n < 10000 → DigitsSoFar line n rest → d < 10 → rest ≡ (48 + d) ∷ after → DigitsSoFar line (n * 10 + d) after
+digits_more line rest after n d some short far low e =
+    let step : decimal (n * 10 + d) ≡ decimal n ++ ((48 + d) ∷ []) = decimal_more n d some low (omega arith) in
+    record {
+      cut = far.cut ∙ (ap (λ u. decimal n ++ u) e ∙ (sym (append_assoc (decimal n) ((48 + d) ∷ []) after) ∙ sym (ap (λ u. u ++ after) step)));
+      typed = omega arith;
+    }
+
+-- no digit is left
+pub digits_end : (line rest left : List ℕ) (n : ℕ) → DigitsSoFar line n rest → left ≡ rest → NoDigit rest → DigitsTaken line n left
+digits_end line rest left n far same none =
+    rw same (record { typed = far.typed; cut = far.cut; all_taken = λ some short. none })
+
+-- no digit may follow
+pub digits_full : (line rest : List ℕ) (n : ℕ) → DigitsSoFar line n rest → (0 < n → n < 10000 → ⊥) → DigitsTaken line n rest
+digits_full line rest n far full = record { typed = far.typed; cut = far.cut; all_taken = λ some short. absurd (full some short) }

@@ -1,11 +1,10 @@
 -- The parts of a form that are read one after the other.
-use Rattle.std.proofs.Common.{◌≡◌, ℕ, List, [], ◌∷◌, ◌++◌, Ok, Err, codes, decimal, Result, sym, refl, ap, ◌∙◌, ap₂, append_assoc, arith, Bor}
-use Rattle.sheet.specs.declared.form.CodeName.{CodeName}
-use Rattle.sheet.specs.declared.form.CodeName.TheVariants.{Rs16, Bare}
-use Rattle.sheet.specs.declared.stop.Stop.{Stop}
+use Rattle.std.proofs.Common.{◌≡◌, ℕ, List, [], ◌∷◌, ◌++◌, Some, None, codes, decimal, Option, sym, refl, ap, ◌∙◌, ap₂, append_assoc, arith}
+use Rattle.promise.specs.declared.kinds.CodeName.{CodeName}
+use Rattle.promise.specs.declared.kinds.CodeName.TheVariants.{Rs16, Bare}
 use Rattle.sheet.specs.Form.{code_word}
 use Rattle.sheet.specs.Language.{Texts, Just, Then, StopsAt, Distinct}
-use Rattle.sheet.specs.Reading.{opening_of, SomeOf, Passed, Read, CodeText, ClosedNumber, field_text, NumberField, code_field_text, CodeField}
+use Rattle.sheet.specs.Reading.{opening_of, SomeOf, Read, CodeText, ClosedNumber, field_text, NumberField, CodeField}
 use Rattle.sheet.proofs.Language.{Behind, behind_stops, beginning_stops, behind_distinct, stops_at_alike, stops_at_in_first, stops_at_in_second, just_distinct, then_distinct}
 use Rattle.sheet.proofs.Numbers.{closed_distinct}
 
@@ -21,11 +20,9 @@ literal_in a b t e = (b, e, refl)
 pub literal_begins : (a b line at : List ℕ) → StopsAt (Just a) line at → StopsAt (Just (a ++ b)) line at
 literal_begins a b line at s = stops_at_alike (Behind a (Just b)) (Just (a ++ b)) (literal_out a b) (literal_in a b) line at (beginning_stops a (Just b) b refl line at s)
 
--- the first part of a literal is read, and the second is read or stops
-pub passed_behind : (a b line rest : List ℕ) (r : Result (Bor (List ℕ)) Stop) → line ≡ a ++ rest → Passed b rest r → Passed (a ++ b) line r
-passed_behind a b line rest (Ok after) e p = e ∙ (ap (λ u. a ++ u) p ∙ sym (append_assoc a b after.now))
-passed_behind a b line rest (Err stop) e s =
-    stops_at_alike (Behind a (Just b)) (Just (a ++ b)) (literal_out a b) (literal_in a b) line stop.at.now (behind_stops a (Just b) line rest stop.at.now e s)
+-- the first part of a literal is read, and the second stops
+pub literal_behind : (a b line rest at : List ℕ) → line ≡ a ++ rest → StopsAt (Just b) rest at → StopsAt (Just (a ++ b)) line at
+literal_behind a b line rest at e s = stops_at_alike (Behind a (Just b)) (Just (a ++ b)) (literal_out a b) (literal_in a b) line at (behind_stops a (Just b) line rest at e s)
 
 -- ---- a number in brackets
 
@@ -39,18 +36,18 @@ pub field_distinct : (name : List ℕ) → Distinct (SomeOf (NumberField name))
 field_distinct name a b y z p q e = behind_distinct (32 ∷ opening_of name) (SomeOf ClosedNumber) closed_distinct a b y z (field_in name a p) (field_in name b q) e
 
 -- the name before the number stops
-pub field_begins : (name line : List ℕ) (stop : Stop) → Passed (32 ∷ opening_of name) line (Err stop) → StopsAt (SomeOf (NumberField name)) line stop.at.now
-field_begins name line stop s =
-    stops_at_alike (Behind (32 ∷ opening_of name) (SomeOf ClosedNumber)) (SomeOf (NumberField name)) (field_out name) (field_in name) line stop.at.now
-    (beginning_stops (32 ∷ opening_of name) (SomeOf ClosedNumber) (decimal 0 ++ (41 ∷ [])) (0, (omega arith, refl)) line stop.at.now s)
+pub field_begins : (name line at : List ℕ) → StopsAt (Just (32 ∷ opening_of name)) line at → StopsAt (SomeOf (NumberField name)) line at
+field_begins name line at s =
+    stops_at_alike (Behind (32 ∷ opening_of name) (SomeOf ClosedNumber)) (SomeOf (NumberField name)) (field_out name) (field_in name) line at
+    (beginning_stops (32 ∷ opening_of name) (SomeOf ClosedNumber) (decimal 0 ++ (41 ∷ [])) (0, (omega arith, refl)) line at s)
 
 -- the name is read, and the number is read or stops
-pub field_reads : (name line rest : List ℕ) (r : Result (ℕ × Bor (List ℕ)) Stop) → line ≡ (32 ∷ opening_of name) ++ rest → Read ClosedNumber rest r → Read (NumberField name) line r
-field_reads name line rest (Ok p) e s =
-    (field_text name p.0, (s.1.0, refl), e ∙ (ap (λ u. (32 ∷ opening_of name) ++ u) (s.2 ∙ ap (λ u. u ++ p.1.now) s.1.1) ∙ sym (append_assoc (32 ∷ opening_of name) (decimal p.0 ++ (41 ∷ [])) p.1.now)))
-field_reads name line rest (Err stop) e s =
-    stops_at_alike (Behind (32 ∷ opening_of name) (SomeOf ClosedNumber)) (SomeOf (NumberField name)) (field_out name) (field_in name) line stop.at.now
-    (behind_stops (32 ∷ opening_of name) (SomeOf ClosedNumber) line rest stop.at.now e s)
+pub field_reads : (name line rest : List ℕ) (r : Option ℕ) (left : List ℕ) → line ≡ (32 ∷ opening_of name) ++ rest → Read ClosedNumber rest r left → Read (NumberField name) line r left
+field_reads name line rest (Some n) left e s =
+    (field_text name n, (s.1.0, refl), e ∙ (ap (λ u. (32 ∷ opening_of name) ++ u) (s.2 ∙ ap (λ u. u ++ left) s.1.1) ∙ sym (append_assoc (32 ∷ opening_of name) (decimal n ++ (41 ∷ [])) left)))
+field_reads name line rest None left e s =
+    stops_at_alike (Behind (32 ∷ opening_of name) (SomeOf ClosedNumber)) (SomeOf (NumberField name)) (field_out name) (field_in name) line left
+    (behind_stops (32 ∷ opening_of name) (SomeOf ClosedNumber) line rest left e s)
 
 -- ---- the code
 
@@ -70,7 +67,7 @@ names_distinct a b y z p q e = elim p.0 as (λ v. a ≡ code_word v → a ≡ b)
 abbrev Closed : Texts
 Closed = Then (SomeOf CodeText) (Just (41 ∷ []))
 
-abbrev code_front : List ℕ
+abbrev pub code_front : List ℕ
 code_front = opening_of (codes "link") ++ opening_of (codes "code")
 
 code_out : (t : List ℕ) → Behind code_front Closed t → SomeOf CodeField t
@@ -88,10 +85,10 @@ code_distinct a b y z p q e = behind_distinct code_front Closed closed_code_dist
 stops_as_code : (line at : List ℕ) → StopsAt (Behind code_front Closed) line at → StopsAt (SomeOf CodeField) line at
 stops_as_code line at s = stops_at_alike (Behind code_front Closed) (SomeOf CodeField) code_out code_in line at s
 
-pub code_begins : (line : List ℕ) (stop : Stop) → Passed code_front line (Err stop) → StopsAt (SomeOf CodeField) line stop.at.now
-code_begins line stop s =
-    stops_as_code line stop.at.now
-    (beginning_stops code_front Closed (codes "rs16" ++ (41 ∷ [])) (record { first = codes "rs16"; second = 41 ∷ []; cut = refl; of_first = (Rs16, refl); of_second = refl }) line stop.at.now s)
+pub code_begins : (line at : List ℕ) → StopsAt (Just code_front) line at → StopsAt (SomeOf CodeField) line at
+code_begins line at s =
+    stops_as_code line at
+    (beginning_stops code_front Closed (codes "rs16" ++ (41 ∷ [])) (record { first = codes "rs16"; second = 41 ∷ []; cut = refl; of_first = (Rs16, refl); of_second = refl }) line at s)
 
 pub code_name_stops : (line rest at : List ℕ) → line ≡ code_front ++ rest → StopsAt (SomeOf CodeText) rest at → StopsAt (SomeOf CodeField) line at
 code_name_stops line rest at e s =
@@ -101,8 +98,3 @@ pub code_bracket_stops : (line rest after at t : List ℕ) (code : CodeName) →
     → StopsAt (SomeOf CodeField) line at
 code_bracket_stops line rest after at t code e is f s =
     stops_as_code line at (behind_stops code_front Closed line rest at e (stops_at_in_second (SomeOf CodeText) (Just (41 ∷ [])) names_distinct rest t after at f (code, is) s))
-
-pub code_read : (line rest after last t : List ℕ) (code : CodeName) → line ≡ code_front ++ rest → CodeText code t → rest ≡ t ++ after → after ≡ 41 ∷ last
-    → (u : List ℕ) × CodeField code u × (line ≡ u ++ last)
-code_read line rest after last t code e is f g =
-    (code_field_text code, refl, e ∙ ap (λ u. code_front ++ u) (f ∙ (ap₂ (λ u v. u ++ v) is g ∙ sym (append_assoc (code_word code) (41 ∷ []) last))))

@@ -1,22 +1,22 @@
 -- The text of the answers: one line for each line of the sheet.
-use Rattle.std.specs.Prelude.{◌≡◌, ℕ, ◌<◌, cond, List, [], ◌∷◌, ◌++◌, length, take, Ok, Err, codes, decimal, Result, ◌==◌}
+use Rattle.std.specs.Prelude.{◌≡◌, ℕ, cond, List, [], ◌∷◌, ◌++◌, take, Option, Some, None, Ok, Err, codes, decimal, Result, ◌==◌}
+use Rattle.std.specs.Io.KnownBytes.{Appends}
 use Rattle.std.specs.List.{concat}
-use Rattle.sheet.specs.declared.figures.Quote.{Quote}
+use Rattle.promise.specs.declared.figures.Quote.{Quote}
+use Rattle.promise.specs.Figures.{quote_text}
 use Rattle.sheet.specs.declared.line.LineFault.{LineFault}
 use Rattle.sheet.specs.declared.line.LineFault.TheVariants.{Unfit, Refused}
 use Rattle.sheet.specs.Line.{LineQuoted, number}
 
--- the line that tells a quote, or a refusal's number; with 18 goes the place
+-- a refusal's number in brackets; with 18 goes the place
+abbrev pub fault_text : LineFault → List ℕ
+fault_text (Unfit m) = concat (codes "(refused " ∷ decimal (number (Unfit m)) ∷ codes " at " ∷ decimal m.place ∷ codes ")" ∷ [])
+fault_text (Refused e) = concat (codes "(refused " ∷ decimal (number (Refused e)) ∷ codes ")" ∷ [])
+
+-- the line that tells a quote or a refusal
 abbrev pub answer_text : Result Quote LineFault → List ℕ
-answer_text (Ok q) = concat (
-    codes "(quote (frame " ∷ decimal q.frame
-    ∷ codes ") (block " ∷ decimal q.block
-    ∷ codes ") (fade " ∷ decimal q.fade
-    ∷ codes ") (resync " ∷ decimal q.resync
-    ∷ codes "))" ∷ []
-    )
-answer_text (Err (Unfit m)) = concat (codes "(refused " ∷ decimal (number (Unfit m)) ∷ codes " at " ∷ decimal m.place ∷ codes ")" ∷ [])
-answer_text (Err (Refused e)) = concat (codes "(refused " ∷ decimal (number (Refused e)) ∷ codes ")" ∷ [])
+answer_text (Ok q) = quote_text q
+answer_text (Err fault) = fault_text fault
 
 -- what a line is answered
 pub record AnswerTo (line answer : List ℕ) : Type 0 where
@@ -49,6 +49,7 @@ sheet_limit = 65536
 abbrev pub AnswersTo : List ℕ → List ℕ → Type 0
 AnswersTo sheet out = AnswersEach (lines_of (take sheet_limit sheet)) out
 
--- The sheet's first line and what is behind its line feed. It serves the proof of the walk over the lines.
-abbrev pub FirstLine : List ℕ → List ℕ → List ℕ → Type 0
-FirstLine sheet line rest = 0 < length sheet → (lines_of sheet ≡ line ∷ lines_of rest) × (length rest < length sheet)
+-- Where the octets of the input are known, those that the output gains are the answers to them.
+abbrev pub AnswersInput : Option (List ℕ) → Option (List ℕ) → Option (List ℕ) → Type 0
+AnswersInput None before after = Unit {0}
+AnswersInput (Some sheet) before after = (answers : List ℕ) × AnswersTo sheet answers × Appends before after answers

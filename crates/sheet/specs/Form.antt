@@ -1,8 +1,8 @@
 -- The text of a form, and where a line stops fitting any.
 use Rattle.std.specs.Prelude.{◌≡◌, ℕ, ◌+◌, ◌<◌, ◌≤◌, List, [], ◌∷◌, ◌++◌, length, take, codes, decimal}
 use Rattle.std.specs.List.{concat}
-use Rattle.sheet.specs.declared.form.CodeName.{CodeName}
-use Rattle.sheet.specs.declared.form.CodeName.TheVariants.{Rs16, Bare}
+use Rattle.promise.specs.declared.kinds.CodeName.{CodeName}
+use Rattle.promise.specs.declared.kinds.CodeName.TheVariants.{Rs16, Bare}
 use Rattle.sheet.specs.declared.form.LinkForm.{LinkForm}
 
 -- A typed number is 0, or a digit 1 to 9 and up to four more: what is written of each number below this.

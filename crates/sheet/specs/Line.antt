@@ -4,11 +4,14 @@ use Rattle.settings.specs.Made.{Holds}
 use Rattle.settings.specs.Refusal as settings
 use Rattle.settings.specs.declared.Settings.{Settings}
 use Rattle.settings.specs.declared.fault.SettingsFault.{SettingsFault}
-use Rattle.sheet.specs.declared.figures.Quote.{Quote}
+use Rattle.promise.specs.declared.figures.Quote.{Quote}
 use Rattle.sheet.specs.declared.form.LinkForm.{LinkForm}
 use Rattle.sheet.specs.declared.line.LineFault.{LineFault}
 use Rattle.sheet.specs.declared.line.LineFault.TheVariants.{Unfit, Refused}
 use Rattle.sheet.specs.declared.line.Misfit.{Misfit}
+use Rattle.mapping.specs.Interleaver.{block_of}
+use Rattle.promise.specs.Kinds.{code_of}
+use Rattle.promise.specs.Quotes.{Quoted}
 use Rattle.sheet.specs.Figures.{figures_of}
 use Rattle.sheet.specs.Form.{WrittenFor, StopsFitting}
 
@@ -25,7 +28,7 @@ FormRead line (Err m) = StopsFitting line m.place
 abbrev pub form_refusal : LinkForm → Option SettingsFault
 form_refusal f = settings.refusal f.depth f.rows f.symbol f.subframe_rows f.miss_limit
 
--- The line is written for a form whose numbers are those of a settings record, and these are its figures.
+-- The line is written for a form whose numbers are those of a settings record, these are its figures, and the link promise holds at just these numbers.
 pub record Quotes (line : List ℕ) (q : Quote) : Type 0 where
   pub form : LinkForm
   pub written : WrittenFor line form
@@ -33,6 +36,7 @@ pub record Quotes (line : List ℕ) (q : Quote) : Type 0 where
   pub settings_made : Settings
   pub holds : Holds form.depth form.rows form.symbol form.subframe_rows form.miss_limit settings_made
   pub figures : q ≡ figures_of form.code settings_made
+  pub carried : Quoted settings_made (code_of form.code) (block_of settings_made) q
 
 -- The line is written for a form whose numbers are refused.
 pub record Refuses (line : List ℕ) (e : SettingsFault) : Type 0 where

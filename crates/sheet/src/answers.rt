@@ -1,9 +1,11 @@
 // The text of the answers, line by line.
-ghost use Rattle.std.specs.Prelude.{IfOk, string_bytes};
-ghost use Rattle.sheet.specs.Answers.{AnswerTo, AnswersTo, FirstLine};
+ghost use Rattle.std.specs.Prelude.{IfOk, OnOk, string_bytes};
+ghost use Rattle.sheet.specs.Answers.{AnswerTo, AnswersTo, AnswersInput};
 
-use crate::line::{LineFault, quote_line};
+use crate::line::quote_line;
 use std::alloc::{AllocError, Global};
+use std::io;
+use std::io::{Read, Write};
 
 // The octets of a sheet that are read.
 const SHEET_LIMIT: usize = 65_536;
@@ -13,56 +15,52 @@ pub fn answer_line(heap: Global, line: &[u8]) -> Result<String, AllocError>
     ensures { IfOk result (λ s. AnswerTo line.now (string_bytes s)) }
 {
     match quote_line(line) {
-        Ok(quote) => {
-            let frame = quote.frame;
-            let block = quote.block;
-            let fade = quote.fade;
-            let resync = quote.resync;
-            format!(in heap;
-                "(quote (frame {frame}) (block {block}) (fade {fade}) (resync {resync}))"
-            )
-        }
-        Err(fault) => {
-            let number = fault.number();
-            match fault {
-                LineFault::Unfit(misfit) => {
-                    let place = misfit.place;
-                    format!(in heap; "(refused {number} at {place})")
-                }
-                LineFault::Refused(_) => format!(in heap; "(refused {number})"),
-            }
-        }
+        Ok(quote) => quote.to_string(heap),
+        Err(fault) => fault.to_string(heap),
     }
-}
-
-// The first line of a sheet, without its line feed, and what is behind that.
-fn first_line<'a>(sheet: &'a [u8]) -> (&'a [u8], &'a [u8])
-    ensures { FirstLine sheet.now result.0.now result.1.now }
-{
-    for (i, octet) in sheet.iter().enumerate() {
-        if *octet == b'\n' {
-            return (&sheet[0..i], &sheet[i + 1..]);
-        }
-    }
-    (sheet, &sheet[sheet.len()..])
 }
 
 // The answers to a sheet: one line for each line of its first 65,536 octets.
 pub fn answer_sheet(heap: Global, sheet: &[u8]) -> Result<String, AllocError>
     ensures { IfOk result (λ s. AnswersTo sheet.now (string_bytes s)) }
 {
+    let read = &sheet[..SHEET_LIMIT.min(sheet.len())];
     let mut answers = String::new(heap);
-    let mut rest = if sheet.len() > SHEET_LIMIT {
-        &sheet[0..SHEET_LIMIT]
-    } else {
-        sheet
-    };
-    while rest.len() > 0 {
-        let (line, after) = first_line(rest);
-        let answer = answer_line(heap, line)?;
-        answers.push_str(answer.as_str())?;
+    for line in read.split_inclusive(|octet| *octet == b'\n') {
+        let line = line.strip_suffix(b"\n").unwrap_or(line);
+        answers.push_str(answer_line(heap, line)?.as_str())?;
         answers.push('\n')?;
-        rest = after;
     }
     Ok(answers)
+}
+
+// Reads a sheet, and writes its answers. Nothing is written where reading fails or memory runs out.
+pub fn answer_input<R: Read + Drop, W: Write>(
+    heap: Global,
+    input: R,
+    output: &mut W,
+) -> io::Result<()>
+    ensures { OnOk result (AnswersInput (R.Read.remaining input) (W.Write.contents output.old) (W.Write.contents output.new)) }
+{
+    let mut sheet = Vec::new(heap);
+    input.take(SHEET_LIMIT as u64).read_to_end(&mut sheet)?;
+    let answers = answer_sheet(heap, sheet.as_slice())?;
+    output.write_all(answers.as_bytes())
+}
+
+#[cfg(test)]
+mod tests {
+    use super::*;
+
+    #[test]
+    fn sheet_is_read_and_answered(rt: HostRuntime) -> io::Result<()> {
+        let form =
+            b"(link (code rs16) (depth 1) (symbol 5) (rows 2) (sub 1) (misses 1))\n(link (code rs8)";
+        let mut output = Vec::new(rt.alloc());
+        answer_input(rt.alloc(), form.as_slice(), &mut output)?;
+        let answers =
+            b"(quote (frame 223) (block 510) (fade 31) (resync 262))\n(refused 18 at 14)\n";
+        assert!(rt; output.as_slice() == answers.as_slice());
+        Ok(())
+    }
 }

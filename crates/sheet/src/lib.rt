@@ -6,9 +6,9 @@ mod figures;
 mod form;
 mod line;
 mod reader;
-mod stop;
 
-pub use answers::{answer_line, answer_sheet};
-pub use figures::{Quote, quote_for};
-pub use form::{CodeName, LinkForm};
+pub use answers::{answer_input, answer_line, answer_sheet};
+pub use figures::quote_for;
+pub use form::LinkForm;
 pub use line::{LineFault, Misfit, quote_line, read_form};
+pub use promise::{CodeName, Quote};

@@ -1,12 +1,15 @@
 // One line of the sheet: the form that it is written for, and its quote.
-ghost use Rattle.std.specs.Prelude.{◌≡◌};
+ghost use Rattle.std.specs.Prelude.{◌≡◌, Some};
+ghost use Rattle.sheet.specs.Answers.{fault_text};
 ghost use Rattle.sheet.specs.Line.{FormRead, LineQuoted, number};
 ghost use Rattle.sheet.specs.declared.line.LineFault.TheVariants.{Unfit, Refused};
 
-use crate::figures::{Quote, quote_for};
+use crate::figures::quote_for;
 use crate::form::LinkForm;
-use crate::reader::form;
+use crate::reader::Reader;
+use promise::Quote;
 use settings::{Settings, SettingsFault};
+use std::fmt;
 
 // The place of the first octet that fits no form, or the line's length where it ends too soon.
 #[derive(Clone, Copy, Debug, PartialEq, Eq)]
@@ -33,6 +36,19 @@ impl LineFault {
     }
 }
 
+// The refusal's number, and with 18 the place.
+impl fmt::Display for LineFault {
+    ghost output = { λ fault. Some (fault_text fault) };
+
+    fn fmt<W: fmt::Write>(&self, f: &mut fmt::Formatter<W>) -> fmt::Result {
+        let number = self.number();
+        match *self {
+            LineFault::Unfit(Misfit { place }) => write!(f, "(refused {number} at {place})"),
+            LineFault::Refused(_) => write!(f, "(refused {number})"),
+        }
+    }
+}
+
 impl From<Misfit> for LineFault {
     ghost from_gives = { λ m f. f ≡ Unfit m };
 
@@ -53,18 +69,11 @@ impl From<SettingsFault> for LineFault {
 pub fn read_form(line: &[u8]) -> Result<LinkForm, Misfit>
     ensures { FormRead line.now result }
 {
-    match form(line) {
-        Ok((found, rest)) => {
-            if rest.len() == 0 {
-                Ok(found)
-            } else {
-                Err(Misfit {
-                    place: line.len() - rest.len(),
-                })
-            }
-        }
-        Err(stop) => Err(Misfit {
-            place: line.len() - stop.at.len(),
+    let mut reader = Reader { rest: line };
+    match reader.form() {
+        Some(form) if reader.rest.is_empty() => Ok(form),
+        _ => Err(Misfit {
+            place: line.len() - reader.rest.len(),
         }),
     }
 }
@@ -74,12 +83,6 @@ pub fn quote_line(line: &[u8]) -> Result<Quote, LineFault>
     ensures { LineQuoted line.now result }
 {
     let form = read_form(line)?;
-    let settings = Settings::new(
-        form.depth,
-        form.rows,
-        form.symbol,
-        form.subframe_rows,
-        form.miss_limit,
-    )?;
+    let settings = Settings::try_from(&form)?;
     Ok(quote_for(form.code, &settings))
 }

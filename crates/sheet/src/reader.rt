@@ -1,159 +1,123 @@
-// The reader of a line: each part takes its text off the front and answers what is left, or where the line stops fitting.
-ghost use Rattle.std.specs.Prelude.{◌<◌, [], ◌∷◌, ◌++◌, decimal};
-ghost use Rattle.sheet.specs.Reading.{First, Passed, Read, sign_octet, opening_of, CodeText, ClosedNumber, NumberField, CodeField, FormText};
+// The reader of a line: each part is taken off the front of what is left, or what is left stays where it stops fitting.
+ghost use Rattle.std.specs.Prelude.{[], ◌∷◌};
+ghost use Rattle.sheet.specs.Reading.{closes, Passed, Read, CodeText, DigitRead, DigitsRead, ClosedNumber, NumberField, CodeField, FormText};
 
-use crate::form::{CodeName, LinkForm};
-use crate::stop::{Sign, Stop};
+use crate::form::LinkForm;
+use promise::CodeName;
 
-// The first octet, as a character, and the rest.
-fn first<'a>(line: &'a [u8]) -> Option<(char, &'a [u8])>
-    ensures { First line.now result }
-{
-    if line.len() == 0 {
-        return None;
-    }
-    Some((char::from(line[0]), &line[1..]))
+// What is left of a line. Where a part does not fit, it begins with the first octet that does not; it is empty where the
+// line ends too soon.
+#[derive(Drop)]
+pub(crate) struct Reader<'a> {
+    pub rest: &'a [u8],
 }
 
-// A bracket or a space.
-fn sign<'a>(line: &'a [u8], wanted: Sign) -> Result<&'a [u8], Stop<'a>>
-    ensures { Passed (sign_octet wanted ∷ []) line.now result }
-{
-    let Some((octet, rest)) = first(line) else {
-        return Err(Stop { at: line });
-    };
-    match (octet, wanted) {
-        ('(', Sign::Open) => Ok(rest),
-        (')', Sign::Close) => Ok(rest),
-        (' ', Sign::Space) => Ok(rest),
-        _ => Err(Stop { at: line }),
-    }
-}
-
-// The letters of a name, one after the other.
-fn word<'a>(line: &'a [u8], letters: &[u8]) -> Result<&'a [u8], Stop<'a>>
-    ensures { Passed letters.now line.now result }
-{
-    let mut rest = line;
-    for letter in letters {
-        let Some((octet, after)) = first(rest) else {
-            return Err(Stop { at: rest });
-        };
-        if octet != char::from(*letter) {
-            return Err(Stop { at: rest });
+impl<'a> Reader<'a> {
+    // These letters, one after the other.
+    fn word(&mut self, letters: &[u8]) -> Option<()>
+        ensures { Passed letters.now self.old.rest.now result self.new.rest.now }
+    {
+        for letter in letters {
+            let (octet, after) = self.rest.split_first()?;
+            if octet != letter {
+                return None;
+            }
+            self.rest = after;
         }
-        rest = after;
+        Some(())
     }
-    Ok(rest)
-}
 
-// The name of a code.
-fn code_name<'a>(line: &'a [u8]) -> Result<(CodeName, &'a [u8]), Stop<'a>>
-    ensures { Read CodeText line.now result }
-{
-    let Some((octet, _)) = first(line) else {
-        return Err(Stop { at: line });
-    };
-    match octet {
-        'b' => {
-            let rest = word(line, b"bare")?;
-            Ok((CodeName::Bare, rest))
-        }
-        _ => {
-            let rest = word(line, b"rs16")?;
-            Ok((CodeName::Rs16, rest))
+    // The bracket that ends a part.
+    fn close(&mut self) -> Option<()>
+        ensures { Passed (closes ∷ []) self.old.rest.now result self.new.rest.now }
+    {
+        self.word(b")")
+    }
+
+    // The name of a code; they begin with different letters.
+    fn code_name(&mut self) -> Option<CodeName>
+        ensures { Read CodeText self.old.rest.now result self.new.rest.now }
+    {
+        if self.rest.starts_with(b"b") {
+            self.word(b"bare")?;
+            Some(CodeName::Bare)
+        } else {
+            self.word(b"rs16")?;
+            Some(CodeName::Rs16)
         }
     }
-}
 
-// The digits of a number behind its first, at most four, and the bracket that ends it.
-fn more_digits<'a>(leading: usize, line: &'a [u8]) -> Result<(usize, &'a [u8]), Stop<'a>>
-    requires { (0 < leading) × (leading < 10) }
-    ensures { Read ClosedNumber (decimal leading ++ line.now) result }
-{
-    let mut value = leading;
-    let mut rest = line;
-    for _ in 0..4usize {
-        let Some((octet, after)) = first(rest) else {
-            return Err(Stop { at: rest });
-        };
-        match octet {
-            '0'..='9' => value = value * 10 + (octet as usize - '0' as usize),
-            ')' => return Ok((value, after)),
-            _ => return Err(Stop { at: rest }),
-        }
-        rest = after;
+    // A digit.
+    fn digit(&mut self) -> Option<usize>
+        ensures { DigitRead self.old.rest.now result self.new.rest.now }
+    {
+        let (octet, after) = self.rest.split_first()?;
+        let digit = char::from(*octet).to_digit(10)?;
+        self.rest = after;
+        Some(digit as usize)
     }
-    let rest = sign(rest, Sign::Close)?;
-    Ok((value, rest))
-}
 
-// A typed number, and the bracket that ends it.
-fn closed_number<'a>(line: &'a [u8]) -> Result<(usize, &'a [u8]), Stop<'a>>
-    ensures { Read ClosedNumber line.now result }
-{
-    let Some((octet, rest)) = first(line) else {
-        return Err(Stop { at: line });
-    };
-    match octet {
-        '0' => {
-            let rest = sign(rest, Sign::Close)?;
-            Ok((0, rest))
+    // The digits of a typed number: 0 alone, or up to five of which the first is not 0.
+    fn digits(&mut self) -> Option<usize>
+        ensures { DigitsRead self.old.rest.now result self.new.rest.now }
+    {
+        let mut value = self.digit()?;
+        while value > 0 && value < 10_000 {
+            let Some(digit) = self.digit() else {
+                return Some(value);
+            };
+            value = value * 10 + digit;
         }
-        '1'..='9' => more_digits(octet as usize - '0' as usize, rest),
-        _ => Err(Stop { at: line }),
+        Some(value)
     }
-}
 
-// A bracket, a name and a space: what a part of the form begins with.
-fn opening<'a>(line: &'a [u8], name: &[u8]) -> Result<&'a [u8], Stop<'a>>
-    ensures { Passed (opening_of name.now) line.now result }
-{
-    let behind_bracket = sign(line, Sign::Open)?;
-    let behind_name = word(behind_bracket, name)?;
-    sign(behind_name, Sign::Space)
-}
+    // A typed number, and the bracket that ends it.
+    fn closed_number(&mut self) -> Option<usize>
+        ensures { Read ClosedNumber self.old.rest.now result self.new.rest.now }
+    {
+        let number = self.digits()?;
+        self.close()?;
+        Some(number)
+    }
 
-// A space, and a number in brackets behind its name.
-fn number_field<'a>(line: &'a [u8], name: &[u8]) -> Result<(usize, &'a [u8]), Stop<'a>>
-    ensures { Read (NumberField name.now) line.now result }
-{
-    let behind_space = sign(line, Sign::Space)?;
-    let behind_name = opening(behind_space, name)?;
-    closed_number(behind_name)
-}
+    // A space, and a number in brackets behind its name.
+    fn number_field(&mut self, name: &[u8]) -> Option<usize>
+        ensures { Read (NumberField name.now) self.old.rest.now result self.new.rest.now }
+    {
+        self.word(b" (")?;
+        self.word(name)?;
+        self.word(b" ")?;
+        self.closed_number()
+    }
 
-// The form's beginning, up to the bracket behind its code.
-fn code_field<'a>(line: &'a [u8]) -> Result<(CodeName, &'a [u8]), Stop<'a>>
-    ensures { Read CodeField line.now result }
-{
-    let behind_link = opening(line, b"link")?;
-    let behind_code = opening(behind_link, b"code")?;
-    let (code, behind_name) = code_name(behind_code)?;
-    let rest = sign(behind_name, Sign::Close)?;
-    Ok((code, rest))
-}
+    // The form's beginning, up to the bracket behind its code.
+    fn code_field(&mut self) -> Option<CodeName>
+        ensures { Read CodeField self.old.rest.now result self.new.rest.now }
+    {
+        self.word(b"(link (code ")?;
+        let code = self.code_name()?;
+        self.close()?;
+        Some(code)
+    }
 
-// The whole form, and what stands behind it.
-pub(crate) fn form<'a>(line: &'a [u8]) -> Result<(LinkForm, &'a [u8]), Stop<'a>>
-    ensures { Read FormText line.now result }
-{
-    let (code, behind_code) = code_field(line)?;
-    let (depth, behind_depth) = number_field(behind_code, b"depth")?;
-    let (symbol, behind_symbol) = number_field(behind_depth, b"symbol")?;
-    let (rows, behind_rows) = number_field(behind_symbol, b"rows")?;
-    let (subframe_rows, behind_sub) = number_field(behind_rows, b"sub")?;
-    let (miss_limit, behind_misses) = number_field(behind_sub, b"misses")?;
-    let rest = sign(behind_misses, Sign::Close)?;
-    Ok((
-        LinkForm {
+    // The whole form.
+    pub(crate) fn form(&mut self) -> Option<LinkForm>
+        ensures { Read FormText self.old.rest.now result self.new.rest.now }
+    {
+        let code = self.code_field()?;
+        let depth = self.number_field(b"depth")?;
+        let symbol = self.number_field(b"symbol")?;
+        let rows = self.number_field(b"rows")?;
+        let subframe_rows = self.number_field(b"sub")?;
+        let miss_limit = self.number_field(b"misses")?;
+        self.close()?;
+        Some(LinkForm {
             code,
             depth,
             symbol,
             rows,
             subframe_rows,
             miss_limit,
-        },
-        rest,
-    ))
+        })
+    }
 }

@@ -1,22 +1,11 @@
-use Rattle.std.proofs.Common.{length, ap, ◌∙◌, arith, length-append}
-use Rattle.sheet.proofs.Misfits.{exact_written, longer_misfit, stopped_misfit}
+use Rattle.std.proofs.Common.{◌==◌, sym, ap, ◌∙◌}
+use Rattle.std.proofs.lemmas.Bool.{true≢false}
+use Rattle.sheet.proofs.Misfits.{longer_misfit, stopped_misfit}
 use Rattle.sheet.proofs.line.read_form.Goals as goal
+use Rattle.sheet.proofs.line.read_form.Goals.{in_default-via-in-Some+else-is_empty, in_default-via-in_default}
 
-pub returns-then-rest-eq0 : goal.returns-then-rest-eq0
-returns-then-rest-eq0 c = exact_written c.args.line.now c.in-Ok.rest.now c.in-Ok.found c.in-Ok.ensures c.if-rest-eq0.true
-
-pub overflow_sub-result : goal.overflow_sub-result
-overflow_sub-result c =
-    let read = c.in-Ok.ensures in
-    omega (arith, ap length read.2 ∙ length-append read.0 c.in-Ok.rest.now)
-
-pub overflow_sub-result-in-Err : goal.overflow_sub-result-in-Err
-overflow_sub-result-in-Err c =
-    let s = c.in-Err.ensures in
-    omega (arith, ap length s.cut ∙ length-append s.fit c.in-Err.stop.at.now)
-
-pub returns-else-rest-eq0 : goal.returns-else-rest-eq0
-returns-else-rest-eq0 c = longer_misfit c.args.line.now c.in-Ok.rest.now c.in-Ok.found c.in-Ok.ensures c.if-rest-eq0.false
-
-pub returns-in-Err : goal.returns-in-Err
-returns-in-Err c = stopped_misfit c.args.line.now c.in-Err.stop.at.now c.in-Err.ensures
+pub returns-in_default : goal.returns-in_default
+returns-in_default c = elim c.in_default.branch [
+  | in_default-via-in-Some+else-is_empty w ↦ longer_misfit _ _ w.in-Some.form w.in-Some.ensures (λ none. true≢false (sym (w.if-is_empty.ensures ∙ ap (λ n. n == 0) none)))
+  | in_default-via-in_default w ↦ stopped_misfit _ _ w.in_default.ensures
+]
