@@ -8,6 +8,7 @@ mod fault;
 mod feeding;
 mod fitting;
 mod hearing;
+mod line;
 mod mending;
 mod receiver;
 mod receiving;

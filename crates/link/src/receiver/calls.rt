@@ -5,8 +5,7 @@ ghost use Rattle.link.specs.Receiver.{MakesReceiver, Feeds, Nexts, Shows};
 ghost use Rattle.link.specs.ReceiverSteps.{at_row, gap_at, state_fed};
 ghost use Rattle.link.specs.FedOctets.{as_fed};
 
-use crate::feeding::feed_octets;
-use crate::fitting::mapping_fits;
+use crate::line::Line;
 use crate::mending::mend_row;
 use crate::{
     BlockFault, FeedFault, Feeding, MakingFault, Mode, NextAnswer, NextFault, Receiver,
@@ -21,9 +20,7 @@ impl<C: Code + Drop, M: Mapping + Drop> Receiver<C, M> {
     pub fn new(settings: Settings, code: C, mapping: M) -> Result<Receiver<C, M>, MakingFault>
         ensures { MakesReceiver C.Code.meaning M.Mapping.meaning settings code mapping result }
     {
-        if !mapping_fits(&settings, &mapping) {
-            return Err(MakingFault::Mapping);
-        }
+        let line = Line::new(settings, mapping)?;
         let state = ReceiverState {
             mode: Mode::Hunting(Window {
                 octets: [0; 6],
@@ -33,12 +30,7 @@ impl<C: Code + Drop, M: Mapping + Drop> Receiver<C, M> {
             first: false,
             after_next: false,
         };
-        Ok(Receiver {
-            settings,
-            code,
-            mapping,
-            state,
-        })
+        Ok(Receiver { line, code, state })
     }
 }
 
@@ -91,21 +83,13 @@ impl<C: Code, M: Mapping> Receiver<C, M> {
     ) -> Result<(usize, Option<Report>), FeedFault>
         ensures { Feeds C.Code.meaning M.Mapping.meaning self.old memory.old input.now result self.new memory.new }
     {
-        if memory.len() != self.settings.block_length()
-            || !mapping_fits(&self.settings, &self.mapping)
-        {
+        if memory.len() != self.line.settings.block_length() {
             return Err(FeedFault::Memory);
         }
-        if self.state.answered < self.settings.rows() {
+        if self.state.answered < self.line.settings.rows() {
             return Err(FeedFault::Waiting);
         }
-        let fed = feed_octets(
-            &self.settings,
-            &self.mapping,
-            self.state.mode,
-            memory,
-            input,
-        );
+        let fed = self.line.feed(self.state.mode, memory, input);
         self.state = state_fed(self.state, fed);
         Ok((fed.taken, fed.report))
     }
@@ -116,19 +100,19 @@ impl<C: Code, M: Mapping> Receiver<C, M> {
     pub(crate) fn next(&mut self, memory: &mut [u8]) -> Result<NextAnswer, NextFault>
         ensures { Nexts C.Code.meaning M.Mapping.meaning self.old memory.old result self.new memory.new }
     {
-        if memory.len() != self.settings.block_length() {
+        if memory.len() != self.line.settings.block_length() {
             return Err(NextFault::Memory);
         }
         let row = self.state.answered;
-        if row >= self.settings.rows() {
+        if row >= self.line.settings.rows() {
             return Err(NextFault::NoneWaits);
         }
-        let size = self.settings.row_length();
+        let size = self.line.settings.row_length();
         let start = row * size;
         let mended = mend_row(
             &self.code,
             &mut memory[start..start + size],
-            self.settings.depth(),
+            self.line.settings.depth(),
         );
         let gap = gap_at(&self.state);
         self.state = ReceiverState {
@@ -151,14 +135,14 @@ impl<C: Code, M: Mapping> Receiver<C, M> {
     pub(crate) fn show<'a>(&self, memory: &'a [u8]) -> Result<&'a [u8], ShowFault>
         ensures { Shows C.Code.meaning M.Mapping.meaning self.now memory.now (result_map_both (λ x. x.now) (λ e. e) result) }
     {
-        if memory.len() != self.settings.block_length() {
+        if memory.len() != self.line.settings.block_length() {
             return Err(ShowFault::Memory);
         }
         if !self.state.after_next {
             return Err(ShowFault::NotNext);
         }
-        let start = (self.state.answered - 1) * self.settings.row_length();
-        let size = self.code.information() * self.settings.depth();
+        let start = (self.state.answered - 1) * self.line.settings.row_length();
+        let size = self.code.information() * self.line.settings.depth();
         Ok(&memory[start..start + size])
     }
 }

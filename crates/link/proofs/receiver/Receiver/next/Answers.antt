@@ -5,14 +5,14 @@ use Rattle.link.proofs.receiver.Receiver.next.Goals as goal
 
 pub slice_bounds-mend_row-end : goal.slice_bounds-mend_row-end
 slice_bounds-mend_row-end g c =
-    let low : c.args.self.now.state.answered < c.args.self.now.settings.rows = omega arith in
+    let low : c.args.self.now.state.answered < c.args.self.now.line.settings.rows = omega arith in
     let within : c.args.self.now.state.answered * c.row_length-size.result + c.row_length-size.result ≤ length c.args.memory.now =
-    omega (arith, row_top c.args.self.now.settings c.args.self.now.state.answered low, ap (λ n. c.args.self.now.state.answered * n) c.row_length-size.ensures) in
+    omega (arith, row_top c.args.self.now.line.settings c.args.self.now.state.answered low, ap (λ n. c.args.self.now.state.answered * n) c.row_length-size.ensures) in
     search rules
 
 pub returns : goal.returns
 returns g c =
-    let s = c.args.self.now.settings in
+    let s = c.args.self.now.line.settings in
     let a = c.args.self.now.state in
     record {
       step = record {

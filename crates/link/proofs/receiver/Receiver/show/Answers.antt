@@ -6,7 +6,7 @@ use Rattle.link.proofs.receiver.Receiver.show.Goals as goal
 
 pub slice_bounds-result-end : goal.slice_bounds-result-end
 slice_bounds-result-end g c =
-    let s = c.args.self.now.settings in
+    let s = c.args.self.now.line.settings in
     let n = c.args.self.now.state.answered in
     let some : 0 < n = answered_some c.args.self.now.state.after_next n c.args.self.now.next_fits c.if-not-self.false in
     let few = (g.met.C.Code.lawful c.args.self.now.code).information_fits in

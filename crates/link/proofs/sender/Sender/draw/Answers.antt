@@ -9,24 +9,24 @@ use Rattle.link.proofs.sender.Sender.draw.Goals.{then-place-written, else-place-
 
 pub returns : goal.returns
 returns g c =
-    let s = c.args.self.now.settings in
-    let m = g.M.Mapping.meaning c.args.self.now.mapping in
-    let n = c.write_line_from-written.result in
-    let told = c.write_line_from-written.ensures in
+    let s = c.args.self.now.line.settings in
+    let m = g.M.Mapping.meaning c.args.self.now.line.mapping in
+    let n = c.write_from-written.result in
+    let told = c.write_from-written.ensures in
     let drawn = c.args.self.now.state.drawn in
     record {
       step = record {
         accepted = draw_accepted s m c.args.self.now.state.put c.args.memory.now
-            (omega (arith, c.block_length.ensures)) (sym c.mapping_fits.ensures ∙ c.if-not-mapping_fits.false) (omega (arith, c.rows.ensures));
+            (omega (arith, c.block_length.ensures)) c.args.self.now.line.fits (omega (arith, c.rows.ensures));
         answer = told.taken_is;
-        written = front_list (block_line s m c.args.memory.now) c.args.out.now c.write_line_from-written.new.out drawn n told.front
+        written = front_list (block_line s m c.args.memory.now) c.args.out.now c.write_from-written.new.out drawn n told.front
             (omega (arith, told.taken_is)) (omega (arith, told.taken_is, length_block_line s m c.args.memory.now, c.args.self.now.drawn_short));
         after = elim c.if-place-written.branch [
           | then-place-written w ↦
-              let lt : drawn + n < line_length s = omega (arith, w.if-place-written.true, c.line_length.ensures) in
+              let lt : drawn + n < line_length s = omega (arith, w.if-place-written.true, c.length.ensures) in
               w.self-is ∙ sym (cond-true _ _ _ (lt-ltb (drawn + n) (line_length s) lt))
           | else-place-written w ↦
-              let ge : line_length s ≤ drawn + n = omega (arith, w.if-place-written.false, c.line_length.ensures) in
+              let ge : line_length s ≤ drawn + n = omega (arith, w.if-place-written.false, c.length.ensures) in
               w.self-is ∙ sym (cond-false _ _ _ (le-ltb (drawn + n) (line_length s) ge))
         ];
       };

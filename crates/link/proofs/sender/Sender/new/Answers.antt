@@ -1,6 +1,5 @@
-use Rattle.std.proofs.Common.{arith}
 use Rattle.link.proofs.Lengths.{line_some}
 use Rattle.link.proofs.sender.Sender.new.Goals as goal
 
-pub invariant_of-result : goal.invariant_of-result
-invariant_of-result g c = record { put_most = omega arith; drawn_short = line_some c.args.settings }
+pub invariant_of-result-clause-drawn_short : goal.invariant_of-result-clause-drawn_short
+invariant_of-result-clause-drawn_short g c = line_some c.in_ok-line.line.settings
