@@ -27,12 +27,12 @@ module _ (s : Settings) where
   feed_accepted m answered memory l f h = rw (eq-eqb (length memory) (block_length s) l, f, le-ltb answered s.rows h)
 
   -- a row mended as a part of the memory
-  pub part_mended : (code : CodeMeaning) (i depth size k : ℕ) (memory row : List ℕ) (count : ℕ) (valid : Result Unit RowFault)
-      → depth ≡ s.depth → size ≡ row_length s → k ≡ size
-      → MendedRow depth code (take k (drop (i * size) memory)) row count valid → MendedRow s.depth code (row_at s i memory) row count valid
-  part_mended code i depth size k memory row count valid d e h m =
+  pub part_mended : (code : CodeMeaning) (i size k : ℕ) (memory row : List ℕ) (count : ℕ) (valid : Result Unit RowFault)
+      → size ≡ row_length s → k ≡ size
+      → MendedRow s.depth code (take k (drop (i * size) memory)) row count valid → MendedRow s.depth code (row_at s i memory) row count valid
+  part_mended code i size k memory row count valid e h m =
       let part : take k (drop (i * size) memory) ≡ row_at s i memory = ap₂ (λ a b. take a (drop (i * b) memory)) (h ∙ e) e in
-      subst (λ x. MendedRow x code (row_at s i memory) row count valid) d (subst (λ xs. MendedRow depth code xs row count valid) part m)
+      subst (λ xs. MendedRow s.depth code xs row count valid) part m
 
   -- ---- what an accepted call says of the state and of the memory
 

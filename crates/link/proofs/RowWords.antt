@@ -16,6 +16,11 @@ use Rattle.link.specs.Frames.{frame_length, EncodedFrame}
 pub word_there : (depth word : ℕ) (row : List ℕ) → depth_is_allowed depth ≡ true → length row ≡ word_length * depth → word < depth → shape_refusal depth word row ≡ None
 word_there depth word row d l w = rw (d, eq-eqb (length row) (word_length * depth) l, lt-ltb word depth w)
 
+-- a frame is not longer than a row
+pub frame_within : (depth : ℕ) (code : CodeMeaning) → code.information ≤ word_length → (frame row : List ℕ) → length row ≡ word_length * depth → length frame ≡ frame_length depth code
+    → length frame ≤ length row
+frame_within depth code few frame row r f = omega (arith, r, f, mul-le code.information depth word_length depth few (omega arith))
+
 -- is encoded, whatever the answer is taken for
 pub encoded_from_answer : (code : CodeMeaning) (depth word : ℕ) (before after : List ℕ) (r : Result Unit ShapeFault)
     → shape_refusal depth word before ≡ None → Encodes code depth word before r after → Encoded code depth word before after

@@ -26,11 +26,10 @@ fn write_marker_from(count: usize, start: usize, out: &mut [u8]) -> usize
     requires start_low { start < 7 }
     ensures { MarkerWritten count start result out.old out.new }
 {
-    let octets = subframe_marker(count);
-    let taken = out.len().min(7 - start);
-    for i in 0..taken {
-        out[i] = octets[start + i];
-    }
+    let marker = subframe_marker(count);
+    let rest = &marker[start..];
+    let taken = out.len().min(rest.len());
+    out[..taken].copy_from_slice(&rest[..taken]);
     taken
 }
 
@@ -56,8 +55,8 @@ impl<M: Mapping> Line<M> {
         }
         let start = count * self.settings.subframe_data() + (offset - 7);
         let size = out.len().min(period - offset);
-        let _ = self.mapping.write_line(memory, start, &mut out[0..size]);
-        size
+        let part = &mut out[..size];
+        self.mapping.write_line(memory, start, part).unwrap()
     }
 
     // Writes the block's line from `place` on, until the output or the block ends, and answers how many octets.
@@ -68,6 +67,7 @@ impl<M: Mapping> Line<M> {
     {
         let size = out.len().min(self.length() - place);
         let mut written = 0;
+        // Kept: how far a piece goes is known only once it is written, so nothing is there to iterate over.
         while written < size {
             written += self.write_piece(memory, place + written, &mut out[written..size]);
         }

@@ -3,55 +3,54 @@ ghost use Rattle.std.specs.Prelude.{◌≡◌, ◌<◌, true, length, bit_xor, s
 ghost use Rattle.settings.specs.Lengths.{block_length};
 ghost use Rattle.link.specs.declared.receiving.Mode.TheVariants.{Reading};
 ghost use Rattle.link.specs.ReceiverFits.{mode_is_fit};
-ghost use Rattle.link.specs.Rules.{block_ends, is_fresh};
-ghost use Rattle.link.specs.Hearing.{DataRead, Heard};
-ghost use Rattle.link.specs.FedOctets.{FedBy};
+ghost use Rattle.link.specs.Rules.{block_ends};
+ghost use Rattle.link.specs.Hearing.{DataRead, Heard, end_of};
+ghost use Rattle.link.specs.FedOctets.{FedBy, report_in};
 
-use crate::hearing::{hunt, judge, next_lock};
+use crate::hearing::{hunt, judge};
 use crate::line::Line;
 use crate::{Lock, Mode, Report, Window};
 use mapping::Mapping;
 use settings::Settings;
 
-// Whether the next data octet is the last of a block in progress.
-fn data_ends_block(settings: &Settings, lock: Lock, place: usize) -> bool
-    requires { mode_is_fit settings.now (Reading lock place) ≡ true }
-    ensures { result ≡ block_ends settings.now (Reading lock place) }
-{
-    lock.filling && settings.subframe_data() <= place + 1 && settings.subframes() <= lock.count + 1
+// What stops a feed before its octets are all gone through.
+#[derive(Clone, Copy)]
+pub enum Stop {
+    // a marker is read
+    Marker(Report),
+    // a block ends; whether it is the first since the lock
+    Block { first: bool },
 }
 
-// Whether the next octet is the last of a block in progress.
-fn block_ends(settings: &Settings, mode: Mode) -> bool
-    requires { mode_is_fit settings.now mode ≡ true }
-    ensures { result ≡ block_ends settings.now mode }
-{
-    match mode {
-        Mode::Reading(lock, place) => data_ends_block(settings, lock, place),
-        _ => false,
-    }
-}
-
-// Whether no block has ended since the lock.
-fn is_fresh(mode: Mode) -> bool
-    ensures { result ≡ is_fresh mode }
-{
-    match mode {
-        Mode::Hunting(_) => false,
-        Mode::Reading(lock, _) => lock.fresh,
-        Mode::Checking(lock, _) => lock.fresh,
-    }
-}
-
-// What a feed comes to: the octets taken, the report of a marker read, whether a block ended and was the first since the
-// lock, and the mode after.
+// What a feed comes to: the octets taken, what stopped it, if anything did, and the mode after.
 #[derive(Clone, Copy)]
 pub struct Feeding {
     pub taken: usize,
-    pub report: Option<Report>,
-    pub ended: bool,
-    pub first: bool,
+    pub stop: Option<Stop>,
     pub mode: Mode,
+}
+
+impl Feeding {
+    // The report of the marker read, if one was.
+    pub(crate) fn report(&self) -> Option<Report>
+        ensures { result ≡ report_in self.now.stop }
+    {
+        match self.stop {
+            Some(Stop::Marker(report)) => Some(report),
+            _ => None,
+        }
+    }
+}
+
+// The end of a block in progress, if the next data octet is its last.
+fn block_end(settings: &Settings, lock: Lock, place: usize) -> Option<Stop>
+    requires { mode_is_fit settings.now (Reading lock place) ≡ true }
+    ensures { result ≡ end_of (block_ends settings.now (Reading lock place)) lock.fresh }
+{
+    let ends = lock.filling
+        && settings.subframe_data() <= place + 1
+        && settings.subframes() <= lock.count + 1;
+    ends.then_some(Stop::Block { first: lock.fresh })
 }
 
 impl<M: Mapping> Line<M> {
@@ -61,11 +60,8 @@ impl<M: Mapping> Line<M> {
         requires within { place < block_length self.now.settings }
         ensures { memory.new ≡ slice_set memory.old ((M.Mapping.meaning self.now.mapping).source place) (bit_xor octet ((M.Mapping.meaning self.now.mapping).mask place)) }
     {
-        if let Ok(source) = self.mapping.source(place) {
-            if let Ok(mask) = self.mapping.mask(place) {
-                memory[source] = octet ^ mask;
-            }
-        }
+        let source = self.mapping.source(place).unwrap();
+        memory[source] = octet ^ self.mapping.mask(place).unwrap();
     }
 
     // One data octet of a subframe: of a block in progress it is stored, else passed over.
@@ -81,24 +77,29 @@ impl<M: Mapping> Line<M> {
         if place + 1 < size {
             Mode::Reading(lock, place + 1)
         } else {
-            let window = Window {
-                octets: [0; 6],
-                held: 0,
-            };
-            Mode::Checking(next_lock(&self.settings, lock), window)
+            Mode::Checking(lock.next(&self.settings), Window::empty())
         }
     }
 
-    // One octet, whatever the mode is.
-    fn hear(&self, mode: Mode, memory: &mut [u8], octet: u8) -> (Mode, Option<Report>)
+    // One octet, whatever the mode is: the mode after, and what stops the feed behind it, if anything does.
+    fn hear(&self, mode: Mode, memory: &mut [u8], octet: u8) -> (Mode, Option<Stop>)
         requires memory_size { length memory.old ≡ block_length self.now.settings }
         requires fits { mode_is_fit self.now.settings mode ≡ true }
         ensures { Heard self.now.settings (M.Mapping.meaning self.now.mapping) mode memory.old octet result.0 result.1 memory.new }
     {
         match mode {
-            Mode::Hunting(window) => hunt(&self.settings, window, octet),
-            Mode::Reading(lock, place) => (self.read_data(lock, place, memory, octet), None),
-            Mode::Checking(lock, window) => judge(&self.settings, lock, window, octet),
+            Mode::Hunting(window) => {
+                let (after, report) = hunt(&self.settings, window, octet);
+                (after, report.map(Stop::Marker))
+            }
+            Mode::Reading(lock, place) => {
+                let after = self.read_data(lock, place, memory, octet);
+                (after, block_end(&self.settings, lock, place))
+            }
+            Mode::Checking(lock, window) => {
+                let (after, report) = judge(&self.settings, lock, window, octet);
+                (after, report.map(Stop::Marker))
+            }
         }
     }
 
@@ -110,36 +111,20 @@ impl<M: Mapping> Line<M> {
         ensures { FedBy self.now.settings (M.Mapping.meaning self.now.mapping) start memory.old input.now result memory.new }
     {
         let mut mode = start;
-        let mut taken = 0;
-        for octet in input {
-            taken += 1;
-            let before = mode;
-            let (after, report) = self.hear(before, memory, *octet);
+        for (before, octet) in input.iter().enumerate() {
+            let (after, stop) = self.hear(mode, memory, *octet);
             mode = after;
-            if report.is_some() {
+            if stop.is_some() {
                 return Feeding {
-                    taken,
-                    report,
-                    ended: false,
-                    first: false,
-                    mode,
-                };
-            }
-            if block_ends(&self.settings, before) {
-                return Feeding {
-                    taken,
-                    report: None,
-                    ended: true,
-                    first: is_fresh(before),
+                    taken: before + 1,
+                    stop,
                     mode,
                 };
             }
         }
         Feeding {
-            taken,
-            report: None,
-            ended: false,
-            first: false,
+            taken: input.len(),
+            stop: None,
             mode,
         }
     }

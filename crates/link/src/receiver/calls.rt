@@ -2,14 +2,14 @@
 ghost use Rattle.std.specs.Prelude.{◌≡◌, []};
 ghost use Rattle.std.specs.Result.{result_map_both};
 ghost use Rattle.link.specs.Receiver.{MakesReceiver, Feeds, Nexts, Shows};
-ghost use Rattle.link.specs.ReceiverSteps.{at_row, gap_at, state_fed};
+ghost use Rattle.link.specs.ReceiverSteps.{gap_at, state_fed};
 ghost use Rattle.link.specs.FedOctets.{as_fed};
 
 use crate::line::Line;
 use crate::mending::mend_row;
 use crate::{
     BlockFault, FeedFault, Feeding, MakingFault, Mode, NextAnswer, NextFault, Receiver,
-    ReceiverState, Report, RowFault, ShowFault, Window,
+    ReceiverState, Report, ShowFault, Stop, Window,
 };
 use code::Code;
 use mapping::Mapping;
@@ -22,10 +22,7 @@ impl<C: Code + Drop, M: Mapping + Drop> Receiver<C, M> {
     {
         let line = Line::new(settings, mapping)?;
         let state = ReceiverState {
-            mode: Mode::Hunting(Window {
-                octets: [0; 6],
-                held: 0,
-            }),
+            mode: Mode::Hunting(Window::empty()),
             answered: settings.rows(),
             first: false,
             after_next: false,
@@ -34,41 +31,29 @@ impl<C: Code + Drop, M: Mapping + Drop> Receiver<C, M> {
     }
 }
 
-// The row's answer; to a refusal the row's number is added.
-fn at_row(valid: Result<(), RowFault>, row: usize) -> Result<(), BlockFault>
-    ensures { result ≡ at_row valid row }
-{
-    match valid {
-        Ok(()) => Ok(()),
-        Err(fault) => Err(BlockFault::Row(row, fault)),
+impl ReceiverState {
+    // Behind a feed: where a block ended, all its frames wait.
+    fn fed(self, fed: Feeding) -> ReceiverState
+        ensures { result ≡ state_fed self (as_fed fed []) }
+    {
+        let (answered, first) = match fed.stop {
+            Some(Stop::Block { first }) => (0, first),
+            _ => (self.answered, self.first),
+        };
+        ReceiverState {
+            mode: fed.mode,
+            answered,
+            first,
+            after_next: false,
+        }
     }
-}
 
-// The gap of the row that is next: 1 on the first row of the first block after a lock, else 0.
-fn gap_at(state: &ReceiverState) -> usize
-    ensures { result ≡ gap_at state.now }
-{
-    if state.answered == 0 && state.first {
-        1
-    } else {
-        0
-    }
-}
-
-// Behind a feed: where a block ended, all its frames wait.
-fn state_fed(state: ReceiverState, fed: Feeding) -> ReceiverState
-    ensures { result ≡ state_fed state (as_fed fed []) }
-{
-    let (answered, first) = if fed.ended {
-        (0, fed.first)
-    } else {
-        (state.answered, state.first)
-    };
-    ReceiverState {
-        mode: fed.mode,
-        answered,
-        first,
-        after_next: false,
+    // The gap of the row that is next: 1 on the first row of the first block after a lock, else 0.
+    // Kept: that number is the answer that docs/FORMAT.md gives.
+    fn gap(self) -> usize
+        ensures { result ≡ gap_at self }
+    {
+        usize::from(self.answered == 0 && self.first)
     }
 }
 
@@ -90,8 +75,8 @@ impl<C: Code, M: Mapping> Receiver<C, M> {
             return Err(FeedFault::Waiting);
         }
         let fed = self.line.feed(self.state.mode, memory, input);
-        self.state = state_fed(self.state, fed);
-        Ok((fed.taken, fed.report))
+        self.state = self.state.fed(fed);
+        Ok((fed.taken, fed.report()))
     }
 
     // Mends the next row of the memory that waits, word by word; no octet outside the row is written. A row that is not
@@ -109,23 +94,19 @@ impl<C: Code, M: Mapping> Receiver<C, M> {
         }
         let size = self.line.settings.row_length();
         let start = row * size;
-        let mended = mend_row(
-            &self.code,
-            &mut memory[start..start + size],
-            self.line.settings.depth(),
-        );
-        let gap = gap_at(&self.state);
+        let part = &mut memory[start..start + size];
+        let mended = mend_row(&self.code, &self.line.settings, part);
+        let gap = self.state.gap();
         self.state = ReceiverState {
-            mode: self.state.mode,
             answered: row + 1,
-            first: self.state.first,
             after_next: true,
+            ..self.state
         };
         Ok(NextAnswer {
             row,
             altered: mended.altered,
             gap,
-            valid: at_row(mended.valid, row),
+            valid: mended.valid.map_err(|fault| BlockFault { row, fault }),
         })
     }
 

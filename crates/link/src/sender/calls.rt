@@ -41,12 +41,8 @@ impl<C: Code, M: Mapping> Sender<C, M> {
         }
         let size = self.line.settings.row_length();
         let start = row * size;
-        encode_frame(
-            &self.code,
-            &mut memory[start..start + size],
-            self.line.settings.depth(),
-            frame,
-        );
+        let part = &mut memory[start..start + size];
+        encode_frame(&self.code, &self.line.settings, part, frame);
         self.state.put = row + 1;
         Ok(row)
     }

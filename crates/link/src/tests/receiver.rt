@@ -1,7 +1,7 @@
 // The receiver run: lines with altered, lost, doubled and foreign octets, calls in any order, memories of right and wrong
 // length, against the digests of compare/receiver.py.
 use super::{START, digest, fill, next};
-use crate::{BlockFault, Kind, NextAnswer, Receiver, Report, RowFault, Sender};
+use crate::{BlockFault, Kind, NextAnswer, Receiver, Report, Sender};
 use code::{Bare, Code};
 use mapping::{BlockMapping, Mapping, Randomized, SteppedMapping};
 use marker::Cause;
@@ -174,10 +174,10 @@ fn see_row(answer: NextAnswer, log: &mut Log) {
     log.see(gap);
     match valid {
         Ok(()) => log.see(0),
-        Err(BlockFault::Row(row, RowFault::Word(word, fault))) => {
-            log.see(fault.number());
+        Err(BlockFault { row, fault }) => {
+            log.see(fault.fault.number());
             log.see(row);
-            log.see(word);
+            log.see(fault.word);
         }
     }
 }

@@ -1,20 +1,14 @@
-use Rattle.std.proofs.Common.{◌≡◌, refl, subst, arith}
+use Rattle.std.proofs.Common.{◌++◌, length, drop, ap, subst, arith, length-drop, length-take}
+use Rattle.marker.proofs.Markers.{length_marker}
 use Rattle.link.specs.Pieces.{FrontWritten, from}
-use Rattle.link.proofs.Pieces.{front_none, front_set}
+use Rattle.link.proofs.Pieces.{front_copied}
 use Rattle.link.proofs.drawing.write_marker_from.Goals as goal
 
-pub loop-i-init : goal.loop-i-init
-loop-i-init c = front_none (from c.subframe_marker-octets.result c.args.start) c.args.out.now
-
-pub loop-i-preserved : goal.loop-i-preserved
-loop-i-preserved c =
-    front_set (from c.subframe_marker-octets.result c.args.start) c.loop-i.i _ c.args.out.now c.loop-i.out c.loop-i.invariant (omega arith) refl
-
 pub returns : goal.returns
-returns c =
-    let last : c.loop-i.i ≡ c.min-taken.result = omega arith in
-    record {
-      taken_is = c.min-taken.ensures;
-      front = subst (λ n. FrontWritten (from n c.args.start) c.min-taken.result c.args.out.now c.loop-i.out) c.subframe_marker-octets.ensures
-          (subst (λ n. FrontWritten (from c.subframe_marker-octets.result c.args.start) n c.args.out.now c.loop-i.out) last c.loop-i.invariant);
-    }
+returns c = record {
+  taken_is = omega (arith, simp (length-take, length-drop) at c.min-taken.ensures, ap length c.subframe_marker-marker.ensures, length_marker c.args.count);
+  front = subst (λ xs. FrontWritten (from xs c.args.start) c.min-taken.result c.args.out.now (c.copy_from_slice.new.self ++ drop c.min-taken.result c.args.out.now))
+      c.subframe_marker-marker.ensures
+      (front_copied c.subframe_marker-marker.result c.args.out.now c.copy_from_slice.new.self c.args.start _ c.min-taken.result
+      c.copy_from_slice.ensures.after (omega (arith, c.min-taken.ensures)) (omega (arith, c.min-taken.ensures)));
+}

@@ -4,10 +4,9 @@ use Rattle.link.specs.Feeding.{fed, fed_from}
 use Rattle.link.specs.ReceiverFits.{mode_is_fit}
 use Rattle.link.proofs.line.Line.feed.Given as goal
 
-abbrev pub invariant-loop-octet : goal.invariant-loop-octet
-invariant-loop-octet g l =
-    (l.taken ≡ l.octet-index)
-    × (length l.memory ≡ block_length l.self.settings)
+abbrev pub invariant-loop-before : goal.invariant-loop-before
+invariant-loop-before g l =
+    (length l.memory ≡ block_length l.self.settings)
     × (mode_is_fit l.self.settings l.mode ≡ true)
     × (fed l.self.settings (g.M.Mapping.meaning l.self.mapping) l.initial.mode l.initial.memory l.input
-    ≡ fed_from l.self.settings (g.M.Mapping.meaning l.self.mapping) l.taken l.mode l.memory (drop l.octet-index l.input))
+    ≡ fed_from l.self.settings (g.M.Mapping.meaning l.self.mapping) l.before l.mode l.memory (drop l.before l.input))

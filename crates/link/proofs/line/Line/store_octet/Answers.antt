@@ -1,4 +1,4 @@
-use Rattle.std.proofs.Common.{◌≡◌, ◌<◌, arith}
+use Rattle.std.proofs.Common.{◌≡◌, ◌<◌, sym, ◌∙◌, arith}
 use Rattle.mapping.specs.Meaning.{block_size}
 use Rattle.link.proofs.ModeFits.{answered_place}
 use Rattle.link.proofs.Tables.{mapping_sizes}
@@ -10,5 +10,6 @@ bounds-memory-source g c =
     let whole = (mapping_sizes c.args.self.now.settings m c.args.self.now.fits).block_is in
     let here : c.args.place < block_size m = omega (arith, whole, c.requires.within) in
     let low = (g.met.M.Mapping.lawful c.args.self.now.mapping).inside c.args.place here in
-    let at : c.in-Ok.source ≡ m.source c.args.place = answered_place m m.source c.args.place c.in-Ok.source here c.in-Ok.ensures in
+    let at : c.unwrap-source.result ≡ m.source c.args.place =
+    answered_place m m.source c.args.place c.unwrap-source.result here (sym c.unwrap-source.ensures ∙ c.source.ensures) in
     omega (arith, low, at, whole, c.requires.memory_size)
