@@ -44,15 +44,16 @@ impl Feeding {
 
 // The end of a block in progress, if the next data octet is its last.
 fn block_end(settings: &Settings, lock: Lock, place: usize) -> Option<Stop>
-    requires { mode_is_fit settings.now (Reading lock place) ≡ true }
     ensures { result ≡ end_of (block_ends settings.now (Reading lock place)) lock.fresh }
 {
     let ends = lock.filling
-        && settings.subframe_data() <= place + 1
-        && settings.subframes() <= lock.count + 1;
+        && place >= settings.subframe_data() - 1
+        && lock.count >= settings.subframes() - 1;
     ends.then_some(Stop::Block { first: lock.fresh })
 }
 
+// Kept: that the memory is of a block's length stands in each contract here and in `drawing`. A type that holds it would hold
+// a `&mut`, and each contract would have to say how that comes back.
 impl<M: Mapping> Line<M> {
     // Puts a data octet, plus its mask, to its source.
     fn store_octet(&self, place: usize, memory: &mut [u8], octet: u8)

@@ -9,6 +9,7 @@ use marker::{Cause, digits_apart};
 use settings::Settings;
 
 // Six places for octets of the line, the first `held` of them filled.
+// Kept: a mode is Copy, and the kit's ArrayVec is not; a Model that shows a list of octets keeps both fields, and more to prove.
 #[derive(Clone, Copy)]
 pub struct Window {
     pub octets: [u8; 6],
@@ -95,15 +96,13 @@ impl Lock {
 
     // Whether one miss more is the M-th in a row.
     fn last_miss(self, settings: &Settings) -> bool
-        requires { lock_is_fit settings.now self ≡ true }
         ensures { result ≡ last_miss settings.now self }
     {
-        self.misses + 1 >= settings.miss_limit()
+        self.misses >= settings.miss_limit() - 1
     }
 
     // Where a receiver is behind seven octets that it took for a marker, by the first cause that they are not the one expected.
     pub(crate) fn judged_mode(self, settings: &Settings, cause: Option<Cause>) -> Mode
-        requires { lock_is_fit settings.now self ≡ true }
         ensures { result ≡ judged_mode settings.now self cause }
     {
         match cause {
@@ -114,6 +113,7 @@ impl Lock {
     }
 
     // What is reported of them.
+    // Kept: a lock can't hold that it fits, which is said of the settings too; the rules' definitions make locks of any numbers.
     pub(crate) fn judged_report(
         self,
         settings: &Settings,
@@ -137,10 +137,9 @@ impl Lock {
 
     // Behind a subframe's data: the marker that is expected next.
     pub(crate) fn next(self, settings: &Settings) -> Lock
-        requires { lock_is_fit settings.now self ≡ true }
         ensures { result ≡ next_lock settings.now self }
     {
-        if self.count + 1 < settings.subframes() {
+        if self.count < settings.subframes() - 1 {
             Lock {
                 count: self.count + 1,
                 ..self

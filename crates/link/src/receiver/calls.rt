@@ -68,6 +68,7 @@ impl<C: Code, M: Mapping> Receiver<C, M> {
     ) -> Result<(usize, Option<Report>), FeedFault>
         ensures { Feeds C.Code.meaning M.Mapping.meaning self.old memory.old input.now result self.new memory.new }
     {
+        // Kept: each call of an end tests this itself. One helper with `?` would need a From for each of five faults.
         if memory.len() != self.line.settings.block_length() {
             return Err(FeedFault::Memory);
         }

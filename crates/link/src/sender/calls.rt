@@ -17,7 +17,7 @@ impl<C: Code + Drop, M: Mapping + Drop> Sender<C, M> {
         Ok(Sender {
             line,
             code,
-            state: SenderState { put: 0, drawn: 0 },
+            state: SenderState::default(),
         })
     }
 }
@@ -61,13 +61,14 @@ impl<C: Code, M: Mapping> Sender<C, M> {
         }
         let place = self.state.drawn;
         let written = self.line.write_from(memory, place, out);
-        self.state = if place + written < self.line.length() {
+        let drawn = place + written;
+        self.state = if drawn < self.line.length() {
             SenderState {
-                put: self.state.put,
-                drawn: place + written,
+                drawn,
+                ..self.state
             }
         } else {
-            SenderState { put: 0, drawn: 0 }
+            SenderState::default()
         };
         Ok(written)
     }
