@@ -14,10 +14,7 @@ pub(crate) fn subframe_marker(count: usize) -> [u8; 7]
     requires { count < 4096 }
     ensures { result ≡ marker count }
 {
-    match write_marker(count) {
-        Some(octets) => octets,
-        None => unreachable(),
-    }
+    write_marker(count).unwrap()
 }
 
 // Writes a marker from octet `start` on, until the output or the marker ends, and answers how many octets.

@@ -13,7 +13,7 @@ use crate::{Lock, Mode, Report, Window};
 use mapping::Mapping;
 use settings::Settings;
 
-// What stops a feed before its octets are all gone through.
+// What stops a feed. No octet behind it is taken.
 #[derive(Clone, Copy)]
 pub enum Stop {
     // a marker is read
@@ -22,7 +22,7 @@ pub enum Stop {
     Block { first: bool },
 }
 
-// What a feed comes to: the octets taken, what stopped it, if anything did, and the mode after.
+// What a feed comes to: the octets taken, what stopped it if they did not just end, and the mode after.
 #[derive(Clone, Copy)]
 pub struct Feeding {
     pub taken: usize,
@@ -52,8 +52,9 @@ fn block_end(settings: &Settings, lock: Lock, place: usize) -> Option<Stop>
     ends.then_some(Stop::Block { first: lock.fresh })
 }
 
-// Kept: that the memory is of a block's length stands in each contract here and in `drawing`. A type that holds it would hold
-// a `&mut`, and each contract would have to say how that comes back.
+// Kept: two facts stand in the contracts here. That the memory is of a block's length: a type that holds it would hold a `&mut`,
+// and each contract would have to say how that comes back. That the mode fits: that is said of the settings, and no mode holds
+// them; the rules make modes of any numbers.
 impl<M: Mapping> Line<M> {
     // Puts a data octet, plus its mask, to its source.
     fn store_octet(&self, place: usize, memory: &mut [u8], octet: u8)

@@ -27,18 +27,16 @@ pub(crate) fn hunt(settings: &Settings, window: Window, octet: u8) -> (Mode, Opt
     if window.held < 6 {
         return (Mode::Hunting(window.with(octet)), None);
     }
-    match lock_found(settings, &window.seven(octet)) {
-        Some(count) => {
-            let report = Report {
-                kind: Kind::Gained,
-                count,
-                digits: 0,
-                fell: false,
-            };
-            (Mode::Reading(Lock::at(count), 0), Some(report))
-        }
-        None => (Mode::Hunting(window.latest_six(octet)), None),
-    }
+    let Some(count) = lock_found(settings, &window.seven(octet)) else {
+        return (Mode::Hunting(window.latest_six(octet)), None);
+    };
+    let report = Report {
+        kind: Kind::Gained,
+        count,
+        digits: 0,
+        fell: false,
+    };
+    (Mode::Reading(Lock::at(count), 0), Some(report))
 }
 
 // One octet of a marker that is expected.

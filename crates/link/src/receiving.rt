@@ -113,7 +113,6 @@ impl Lock {
     }
 
     // What is reported of them.
-    // Kept: a lock can't hold that it fits, which is said of the settings too; the rules' definitions make locks of any numbers.
     pub(crate) fn judged_report(
         self,
         settings: &Settings,
