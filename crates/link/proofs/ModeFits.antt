@@ -1,15 +1,13 @@
 -- The invariants of a receiver's mode: what they say, and that every octet keeps them.
-use Rattle.std.proofs.Common.{◌≡◌, ℕ, ◌+◌, ◌*◌, ◌<◌, true, false, cond, not, ◌&&◌, ltb, List, length, set, Some, None, Ok, Err, Option, refl, mul_comm, arith}
+use Rattle.std.proofs.Common.{◌≡◌, ℕ, ◌+◌, ◌*◌, ◌<◌, true, false, cond, not, ◌&&◌, ltb, List, length, set, Some, None, Option, refl, mul_comm, arith}
 use lib.Bits.{bit_xor}
 use Rattle.std.proofs.lemmas.Nat.{mul-add-lt}
 use Rattle.std.proofs.lemmas.List.{length-set}
-use Rattle.std.proofs.lemmas.Bool.{and_parts, and_from, ltb-true, lt-ltb, le-leb, cond-true, cond_both, not-false}
+use Rattle.std.proofs.lemmas.Bool.{and_parts, and_from, ltb-true, lt-ltb, le-leb, cond_both, not-false}
 use Rattle.settings.specs.declared.Settings.{Settings}
 use Rattle.settings.specs.Lengths.{subframes, subframe_data, block_length}
 use Rattle.settings.proofs.Ranges.{ranges}
-use Rattle.mapping.specs.Answers.{place_answer}
-use Rattle.mapping.specs.Meaning.{MappingMeaning, block_size}
-use Rattle.mapping.specs.declared.fault.MappingFault.TheVariants.{Place}
+use Rattle.mapping.specs.Meaning.{MappingMeaning}
 use Rattle.marker.specs.Reading.{sync_is_right, parity_is_right, count_read, first_cause}
 use Rattle.marker.specs.declared.cause.Cause.{Cause}
 use Rattle.link.specs.declared.receiving.Window.{Window}
@@ -116,9 +114,3 @@ module _ (s : Settings) where
       cond_both lock.filling (set memory (m.source p) (bit_xor x (m.mask p))) memory (λ xs. length xs ≡ length memory)
       (λ e. length-set memory (m.source p) (bit_xor x (m.mask p))) (λ e. refl)
   memory_stays m (Checking lock w) memory x = refl
-
--- what a mapping answers for a place of the block
-pub answered_place : (m : MappingMeaning) (f : ℕ → ℕ) (p q : ℕ) → p < block_size m → Ok q ≡ place_answer m f p → q ≡ f p
-answered_place m f p q l e =
-    let t : place_answer m f p ≡ Ok (f p) = cond-true (ltb p (block_size m)) (Ok (f p)) (Err Place) (lt-ltb p (block_size m) l) in
-    cc

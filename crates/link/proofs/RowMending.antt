@@ -11,7 +11,7 @@ use Rattle.code.specs.Refusal.{shape_refusal}
 use Rattle.code.specs.Calls.{Mended, Mends, Beyond}
 use Rattle.code.specs.declared.fault.MendFault.{MendFault}
 use Rattle.code.specs.declared.fault.MendFault.TheVariants.{Shape, Reach}
-use Rattle.link.specs.RowMending.{WordAfter, FirstMended, Verdict, MendedRow}
+use Rattle.link.specs.RowMending.{WordAfter, FirstMended, Verdict}
 use Rattle.link.specs.declared.mending.RowFault.{RowFault}
 use Rattle.link.proofs.WovenCounts.{altered_in_word, altered_adds}
 
@@ -173,12 +173,3 @@ module _ (depth : ℕ) (code : CodeMeaning) (before : List ℕ) (w : ℕ) (low :
   mended_err fault there m =
       mended_more depth code before w low row row' count count valid (Err (record { word = w; fault = fault })) held
       (word_left code depth w row count row' fault there m)
-
-  -- the octets altered of a word are not more than it has
-  pub mends_few : (n : ℕ) → Mends code depth w row (Ok n) row' → count + n ≤ 255 * depth
-  mends_few n (e, m) = omega (arith, m.counted, held.few, altered_le word_length (word_of depth w row) (word_of depth w row'))
-
--- all words
-pub mended_all : (depth : ℕ) (code : CodeMeaning) (before row : List ℕ) (count : ℕ) (valid : Result Unit RowFault)
-    → MendedUpTo depth code before depth row count valid → MendedRow depth code before row count valid
-mended_all depth code before row count valid h = record { size = h.size; words = h.words; counted = h.counted; verdict = h.verdict }

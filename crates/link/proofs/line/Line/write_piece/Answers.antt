@@ -1,36 +1,13 @@
-use Rattle.std.proofs.Common.{◌≡◌, ◌*◌, ◌/◌, ◌≤◌, ◌++◌, drop, Ok, subst, arith}
-use Rattle.std.proofs.lemmas.Nat.{mul-le}
-use Rattle.settings.proofs.Ranges.{subframe_data_high, period_high}
+use Rattle.std.proofs.Common.{◌≡◌, ◌++◌, drop, Ok, subst}
 use Rattle.link.specs.Pieces.{PieceWritten}
-use Rattle.link.proofs.Lengths.{subframes_high}
-use Rattle.link.proofs.Subframes.{count_below, offset_below, piece_of_marker, piece_answer, piece_of_data}
+use Rattle.link.proofs.Subframes.{piece_of_marker, piece_answer, piece_of_data}
 use Rattle.link.proofs.line.Line.write_piece.Goals as goal
-
-pub write_marker_from-requires : goal.write_marker_from-requires
-write_marker_from-requires g c =
-    let low = count_below c.args.self.now.settings c.args.place c.period-period.result c.period-period.ensures c.requires.within in
-    record { count_low = omega (arith, subframes_high c.args.self.now.settings); start_low = c.if-offset-lt7.true }
 
 pub returns-then-offset-lt7 : goal.returns-then-offset-lt7
 returns-then-offset-lt7 g c =
     piece_of_marker c.args.self.now.settings c.args.place c.period-period.result c.period-period.ensures c.requires.within
     (g.M.Mapping.meaning c.args.self.now.mapping) c.args.memory.now c.write_marker_from.result c.args.out.now c.write_marker_from.new.out
     c.if-offset-lt7.true c.write_marker_from.ensures
-
-pub overflow_mul-start : goal.overflow_mul-start
-overflow_mul-start g c =
-    let low = count_below c.args.self.now.settings c.args.place c.period-period.result c.period-period.ensures c.requires.within in
-    let high : c.args.place / c.period-period.result * c.subframe_data.result ≤ 4096 * 8355840 =
-    mul-le (c.args.place / c.period-period.result) c.subframe_data.result 4096 8355840 (omega (arith, subframes_high c.args.self.now.settings)) (omega (arith, c.subframe_data.ensures, subframe_data_high c.args.self.now.settings)) in
-    omega arith
-
-pub overflow_add-start : goal.overflow_add-start
-overflow_add-start g c =
-    let low = count_below c.args.self.now.settings c.args.place c.period-period.result c.period-period.ensures c.requires.within in
-    let high : c.args.place / c.period-period.result * c.subframe_data.result ≤ 4096 * 8355840 =
-    mul-le (c.args.place / c.period-period.result) c.subframe_data.result 4096 8355840 (omega (arith, subframes_high c.args.self.now.settings)) (omega (arith, c.subframe_data.ensures, subframe_data_high c.args.self.now.settings)) in
-    let off = offset_below c.args.self.now.settings c.args.place c.period-period.result c.period-period.ensures c.requires.within in
-    omega (arith, period_high c.args.self.now.settings, c.period-period.ensures)
 
 pub unwrap-requires : goal.unwrap-requires
 unwrap-requires g c =
