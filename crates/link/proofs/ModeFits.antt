@@ -1,5 +1,5 @@
 -- The invariants of a receiver's mode: what they say, and that every octet keeps them.
-use Rattle.std.proofs.Common.{◌≡◌, ℕ, ◌+◌, ◌*◌, ◌<◌, true, false, cond, not, ◌&&◌, ltb, List, length, set, Some, None, Option, refl, mul_comm, arith}
+use Rattle.std.proofs.Common.{◌≡◌, ℕ, ◌+◌, ◌*◌, ◌<◌, true, false, cond, not, ◌&&◌, ltb, List, length, set, Some, None, Option, refl, ap, mul_comm, arith}
 use lib.Bits.{bit_xor}
 use Rattle.std.proofs.lemmas.Nat.{mul-add-lt}
 use Rattle.std.proofs.lemmas.List.{length-set}
@@ -51,6 +51,10 @@ module _ (s : Settings) where
         place_low = low;
         within = omega (arith, mul-add-lt lock.count (subframe_data s) place (subframes s) l.count_low low, mul_comm (subframe_data s) (subframes s), data_fills s);
       }
+
+  -- that place, by the octets of a subframe's data as they were answered
+  pub data_place : (lock : Lock) (place size : ℕ) → size ≡ subframe_data s → mode_is_fit s (Reading lock place) ≡ true → lock.count * size + place < block_length s
+  data_place lock place size e h = omega (arith, (data_sizes lock place h).within, ap (λ n. lock.count * n) e)
 
   -- at the first data octet behind a marker
   reading_first : (lock : Lock) → lock_is_fit s lock ≡ true → mode_is_fit s (Reading lock 0) ≡ true
