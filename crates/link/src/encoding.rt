@@ -6,6 +6,13 @@ ghost use Rattle.link.specs.Frames.{EncodedFrame, frame_length};
 use code::Code;
 use settings::Settings;
 
+// The octets of a frame: the information of the words of a row.
+pub(crate) fn frame_length<C: Code>(code: &C, settings: &Settings) -> usize
+    ensures { result ≡ frame_length settings.now.depth (C.Code.meaning code.now) }
+{
+    code.information() * settings.depth()
+}
+
 // Puts the frame to the front of the row and makes each word of the row a codeword.
 pub(crate) fn encode_frame<C: Code>(code: &C, settings: &Settings, row: &mut [u8], frame: &[u8])
     requires row_size { length row.old ≡ row_length settings.now }

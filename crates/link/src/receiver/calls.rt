@@ -5,6 +5,7 @@ ghost use Rattle.link.specs.Receiver.{MakesReceiver, Feeds, Nexts, Shows};
 ghost use Rattle.link.specs.ReceiverSteps.{gap_at, state_fed};
 ghost use Rattle.link.specs.FedOctets.{as_fed};
 
+use crate::encoding::frame_length;
 use crate::line::Line;
 use crate::mending::mend_row;
 use crate::{
@@ -86,17 +87,18 @@ impl<C: Code, M: Mapping> Receiver<C, M> {
     pub(crate) fn next(&mut self, memory: &mut [u8]) -> Result<NextAnswer, NextFault>
         ensures { Nexts C.Code.meaning M.Mapping.meaning self.old memory.old result self.new memory.new }
     {
-        if memory.len() != self.line.settings.block_length() {
+        let settings = self.line.settings;
+        if memory.len() != settings.block_length() {
             return Err(NextFault::Memory);
         }
         let row = self.state.answered;
-        if row >= self.line.settings.rows() {
+        if row >= settings.rows() {
             return Err(NextFault::NoneWaits);
         }
-        let size = self.line.settings.row_length();
+        let size = settings.row_length();
         let start = row * size;
         let part = &mut memory[start..start + size];
-        let mended = mend_row(&self.code, &self.line.settings, part);
+        let mended = mend_row(&self.code, &settings, part);
         let gap = self.state.gap();
         self.state = ReceiverState {
             answered: row + 1,
@@ -117,14 +119,15 @@ impl<C: Code, M: Mapping> Receiver<C, M> {
     pub(crate) fn show<'a>(&self, memory: &'a [u8]) -> Result<&'a [u8], ShowFault>
         ensures { Shows C.Code.meaning M.Mapping.meaning self.now memory.now (result_map_both (λ x. x.now) (λ e. e) result) }
     {
-        if memory.len() != self.line.settings.block_length() {
+        let settings = self.line.settings;
+        if memory.len() != settings.block_length() {
             return Err(ShowFault::Memory);
         }
         if !self.state.after_next {
             return Err(ShowFault::NotNext);
         }
-        let start = (self.state.answered - 1) * self.line.settings.row_length();
-        let size = self.code.information() * self.line.settings.depth();
+        let start = (self.state.answered - 1) * settings.row_length();
+        let size = frame_length(&self.code, &settings);
         Ok(&memory[start..start + size])
     }
 }

@@ -1,7 +1,7 @@
 // What a sender does.
 ghost use Rattle.link.specs.Sender.{Makes, Puts, Draws};
 
-use crate::encoding::encode_frame;
+use crate::encoding::{encode_frame, frame_length};
 use crate::line::Line;
 use crate::{DrawFault, MakingFault, PutFault, Sender, SenderState};
 use code::Code;
@@ -29,20 +29,21 @@ impl<C: Code, M: Mapping> Sender<C, M> {
     pub(crate) fn put(&mut self, memory: &mut [u8], frame: &[u8]) -> Result<usize, PutFault>
         ensures { Puts C.Code.meaning M.Mapping.meaning self.old memory.old frame.now result self.new memory.new }
     {
-        if memory.len() != self.line.settings.block_length() {
+        let settings = self.line.settings;
+        if memory.len() != settings.block_length() {
             return Err(PutFault::Memory);
         }
-        if frame.len() != self.code.information() * self.line.settings.depth() {
+        if frame.len() != frame_length(&self.code, &settings) {
             return Err(PutFault::Frame);
         }
         let row = self.state.put;
-        if row >= self.line.settings.rows() {
+        if row >= settings.rows() {
             return Err(PutFault::Full);
         }
-        let size = self.line.settings.row_length();
+        let size = settings.row_length();
         let start = row * size;
         let part = &mut memory[start..start + size];
-        encode_frame(&self.code, &self.line.settings, part, frame);
+        encode_frame(&self.code, &settings, part, frame);
         self.state.put = row + 1;
         Ok(row)
     }

@@ -1,4 +1,4 @@
-use Rattle.std.proofs.Common.{◌+◌, ◌*◌, ◌<◌, ◌≤◌, length, refl, ap, ◌∙◌, ap₂, arith, rules}
+use Rattle.std.proofs.Common.{◌+◌, ◌*◌, ◌<◌, ◌≤◌, length, refl, ap, ◌∙◌, arith, rules}
 use Rattle.link.proofs.Tables.{put_accepted}
 use Rattle.link.proofs.Rows.{row_top, row_put}
 use Rattle.link.proofs.sender.Sender.put.Goals as goal
@@ -15,7 +15,7 @@ returns g c = record {
   step = record {
     accepted = put_accepted c.args.self.now.line.settings (g.C.Code.meaning c.args.self.now.code) c.args.self.now.state.put c.args.memory.now c.args.frame.now
         (omega (arith, c.block_length.ensures))
-        (c.if-frame-information.false ∙ ap₂ (λ n d. n * d) c.information.ensures c.depth.ensures)
+        (c.if-frame-frame_length.false ∙ c.frame_length.ensures)
         (omega (arith, c.rows.ensures));
     row = c.encode_frame.new.row;
     encoded = c.encode_frame.ensures;
