@@ -6,27 +6,24 @@ use Rattle.mapping.specs.Meaning.{MappingMeaning}
 use Rattle.link.specs.declared.receiving.Mode.{Mode}
 use Rattle.link.specs.declared.report.Report.{Report}
 use Rattle.link.specs.Rules.{mode_after, report_of, memory_after, block_ends, is_fresh}
-use Rattle.link.specs.Hearing.{Heard}
+use Rattle.link.specs.Hearing.{end_of, stop_of, Heard}
+use Rattle.link.specs.FedOctets.{as_fed}
+use Rattle.link.specs.declared.feeding.Stop.{Stop}
 use Rattle.link.specs.Feeding.{Fed, fed_all, stop_or, fed_from, fed, behind, passed, fed_each, taken_each, AnyChunking}
 
 -- ---- where a feed stops
 
-pub stop_at_report : (report : Option Report) (ended first : Bool) (n : ℕ) (mode : Mode) (memory : List ℕ) (further : Fed) → is_some report ≡ true
-    → stop_or report ended first n mode memory further ≡ record { taken = n; report = report; ended = false; first = false; mode = mode; memory = memory }
-stop_at_report (Some report) ended first n mode memory further e = refl
-stop_at_report None ended first n mode memory further e = let z : ◌≡◌ {A = ℕ} 0 1 = cc in absurd (omega arith)
+pub stops_there : (report : Option Report) (ended first : Bool) (n : ℕ) (mode : Mode) (memory : List ℕ) (further : Fed) → is_some (stop_of report (end_of ended first)) ≡ true
+    → stop_or report ended first n mode memory further ≡ as_fed (record { taken = n; stop = stop_of report (end_of ended first); mode = mode }) memory
+stops_there (Some report) ended first n mode memory further e = refl
+stops_there None true first n mode memory further e = refl
+stops_there None false first n mode memory further e = let z : ◌≡◌ {A = ℕ} 0 1 = cc in absurd (omega arith)
 
-pub stop_at_end : (report : Option Report) (ended first : Bool) (n : ℕ) (mode : Mode) (memory : List ℕ) (further : Fed) → is_some report ≡ false → ended ≡ true
-    → stop_or report ended first n mode memory further ≡ record { taken = n; report = None; ended = true; first = first; mode = mode; memory = memory }
-stop_at_end (Some report) ended first n mode memory further e t = let z : ◌≡◌ {A = ℕ} 0 1 = cc in absurd (omega arith)
-stop_at_end None true first n mode memory further e t = refl
-stop_at_end None false first n mode memory further e t = let z : ◌≡◌ {A = ℕ} 0 1 = cc in absurd (omega arith)
-
-pub no_stop : (report : Option Report) (ended first : Bool) (n : ℕ) (mode : Mode) (memory : List ℕ) (further : Fed) → is_some report ≡ false → ended ≡ false
+pub goes_on_there : (report : Option Report) (ended first : Bool) (n : ℕ) (mode : Mode) (memory : List ℕ) (further : Fed) → is_some (stop_of report (end_of ended first)) ≡ false
     → stop_or report ended first n mode memory further ≡ further
-no_stop (Some report) ended first n mode memory further e t = let z : ◌≡◌ {A = ℕ} 0 1 = cc in absurd (omega arith)
-no_stop None true first n mode memory further e t = let z : ◌≡◌ {A = ℕ} 0 1 = cc in absurd (omega arith)
-no_stop None false first n mode memory further e t = refl
+goes_on_there (Some report) ended first n mode memory further e = let z : ◌≡◌ {A = ℕ} 0 1 = cc in absurd (omega arith)
+goes_on_there None true first n mode memory further e = let z : ◌≡◌ {A = ℕ} 0 1 = cc in absurd (omega arith)
+goes_on_there None false first n mode memory further e = refl
 
 module _ (s : Settings) (m : MappingMeaning) where
   -- ---- the loop of feed
@@ -45,15 +42,13 @@ module _ (s : Settings) (m : MappingMeaning) where
   fed_at n mode memory xs i x h e = rw (drop_more xs i 0 h, ← e) refl
 
   -- one octet heard
-  pub fed_turn : (n : ℕ) (mode : Mode) (memory xs : List ℕ) (i x : ℕ) (mode' : Mode) (report : Option Report) (memory' : List ℕ)
-      → i < length xs → x ≡ get_or xs i 0 → Heard s m mode memory x mode' report memory'
+  pub fed_turn : (n : ℕ) (mode : Mode) (memory xs : List ℕ) (i x : ℕ) (mode' : Mode) (stop : Option Stop) (memory' : List ℕ)
+      → i < length xs → x ≡ get_or xs i 0 → Heard s m mode memory x mode' stop memory'
       → fed_from s m n mode memory (drop i xs)
-      ≡ stop_or report (block_ends s mode) (is_fresh mode) (n + 1) mode' memory' (fed_from s m (n + 1) mode' memory' (drop (i + 1) xs))
-  fed_turn n mode memory xs i x mode' report memory' h e heard =
+      ≡ stop_or (report_of s mode x) (block_ends s mode) (is_fresh mode) (n + 1) mode' memory' (fed_from s m (n + 1) mode' memory' (drop (i + 1) xs))
+  fed_turn n mode memory xs i x mode' stop memory' h e heard =
       fed_at n mode memory xs i x h e
-      ∙ ap (λ r. stop_or r (block_ends s mode) (is_fresh mode) (n + 1) (mode_after s mode x) (memory_after s m mode memory x)
-      (fed_from s m (n + 1) (mode_after s mode x) (memory_after s m mode memory x) (drop (i + 1) xs))) (sym heard.report_is)
-      ∙ ap₂ (λ md mem. stop_or report (block_ends s mode) (is_fresh mode) (n + 1) md mem (fed_from s m (n + 1) md mem (drop (i + 1) xs)))
+      ∙ ap₂ (λ md mem. stop_or (report_of s mode x) (block_ends s mode) (is_fresh mode) (n + 1) md mem (fed_from s m (n + 1) md mem (drop (i + 1) xs)))
       (sym heard.mode_is) (sym heard.stored)
 
   -- ---- any chunking

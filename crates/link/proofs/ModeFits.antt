@@ -1,15 +1,13 @@
 -- The invariants of a receiver's mode: what they say, and that every octet keeps them.
-use Rattle.std.proofs.Common.{◌≡◌, ℕ, ◌+◌, ◌*◌, ◌<◌, true, false, cond, not, ◌&&◌, ltb, List, length, set, Some, None, Ok, Err, Option, refl, mul_comm, arith}
+use Rattle.std.proofs.Common.{◌≡◌, ℕ, ◌+◌, ◌*◌, ◌<◌, true, false, cond, not, ◌&&◌, ltb, List, length, set, Some, None, Option, refl, ap, mul_comm, arith}
 use lib.Bits.{bit_xor}
 use Rattle.std.proofs.lemmas.Nat.{mul-add-lt}
 use Rattle.std.proofs.lemmas.List.{length-set}
-use Rattle.std.proofs.lemmas.Bool.{and_parts, and_from, ltb-true, lt-ltb, le-leb, cond-true, cond_both, not-false}
+use Rattle.std.proofs.lemmas.Bool.{and_parts, and_from, ltb-true, lt-ltb, le-leb, cond_both, not-false}
 use Rattle.settings.specs.declared.Settings.{Settings}
 use Rattle.settings.specs.Lengths.{subframes, subframe_data, block_length}
 use Rattle.settings.proofs.Ranges.{ranges}
-use Rattle.mapping.specs.Answers.{place_answer}
-use Rattle.mapping.specs.Meaning.{MappingMeaning, block_size}
-use Rattle.mapping.specs.declared.fault.MappingFault.TheVariants.{Place}
+use Rattle.mapping.specs.Meaning.{MappingMeaning}
 use Rattle.marker.specs.Reading.{sync_is_right, parity_is_right, count_read, first_cause}
 use Rattle.marker.specs.declared.cause.Cause.{Cause}
 use Rattle.link.specs.declared.receiving.Window.{Window}
@@ -53,6 +51,10 @@ module _ (s : Settings) where
         place_low = low;
         within = omega (arith, mul-add-lt lock.count (subframe_data s) place (subframes s) l.count_low low, mul_comm (subframe_data s) (subframes s), data_fills s);
       }
+
+  -- that place, by the octets of a subframe's data as they were answered
+  pub data_place : (lock : Lock) (place size : ℕ) → size ≡ subframe_data s → mode_is_fit s (Reading lock place) ≡ true → lock.count * size + place < block_length s
+  data_place lock place size e h = omega (arith, (data_sizes lock place h).within, ap (λ n. lock.count * n) e)
 
   -- at the first data octet behind a marker
   reading_first : (lock : Lock) → lock_is_fit s lock ≡ true → mode_is_fit s (Reading lock 0) ≡ true
@@ -116,9 +118,3 @@ module _ (s : Settings) where
       cond_both lock.filling (set memory (m.source p) (bit_xor x (m.mask p))) memory (λ xs. length xs ≡ length memory)
       (λ e. length-set memory (m.source p) (bit_xor x (m.mask p))) (λ e. refl)
   memory_stays m (Checking lock w) memory x = refl
-
--- what a mapping answers for a place of the block
-pub answered_place : (m : MappingMeaning) (f : ℕ → ℕ) (p q : ℕ) → p < block_size m → Ok q ≡ place_answer m f p → q ≡ f p
-answered_place m f p q l e =
-    let t : place_answer m f p ≡ Ok (f p) = cond-true (ltb p (block_size m)) (Ok (f p)) (Err Place) (lt-ltb p (block_size m) l) in
-    cc

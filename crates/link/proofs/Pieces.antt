@@ -1,7 +1,7 @@
 -- Pieces of the line written one behind the other.
-use Rattle.std.proofs.Common.{◌≡◌, ℕ, ◌+◌, ◌-◌, ◌<◌, ◌≤◌, List, ◌++◌, length, get_or, take, drop, set, sym, refl, ap, ◌∙◌, ⊎_elim, arith, length-append, length-drop, length-take}
+use Rattle.std.proofs.Common.{◌≡◌, ℕ, ◌+◌, ◌-◌, ◌<◌, ◌≤◌, List, ◌++◌, length, get_or, take, drop, sym, refl, ap, ◌∙◌, ⊎_elim, arith, length-append, length-drop, length-take}
 use borrow.Rule.Slice.PartMut.{put_mid}
-use Rattle.std.proofs.lemmas.List.{ext_get_or, get_or_append_left, get_or-append_right, get_or-drop, get_or-set_same, get_or-set_other, get_or-take, length-set, length-take-le}
+use Rattle.std.proofs.lemmas.List.{ext_get_or, get_or_append_left, get_or-append_right, get_or-drop, get_or-take, length-take-le}
 use Rattle.std.proofs.lemmas.Bool.{cases_lt}
 use Rattle.link.specs.Pieces.{FrontWritten, from}
 
@@ -94,17 +94,3 @@ front_list xs before after place taken h few fits =
     ∙ sym (get_or-drop taken before (i - taken) 0)
     ∙ sym (get_or-append_right (take taken (drop place xs)) (drop taken before) taken i 0 cut ge))
     (cases_lt i taken))
-
--- an octet more
-pub front_set : (octet : ℕ → ℕ) (i v : ℕ) (before mid : List ℕ) → FrontWritten octet i before mid → i < length mid → v ≡ octet i
-    → FrontWritten octet (i + 1) before (set mid i v)
-front_set octet i v before mid h low e = record {
-  size = length-set mid i v ∙ h.size;
-  written = λ k l. ⊎_elim
-      (λ (lt : k < i). get_or-set_other mid i k v 0 (λ z. omega arith) ∙ h.written k lt)
-      (λ (ge : i ≤ k).
-      let at : k ≡ i = omega arith in
-      ap (λ n. get_or (set mid i v) n 0) at ∙ get_or-set_same mid i v 0 low ∙ e ∙ ap octet (sym at))
-      (cases_lt k i);
-  kept = λ k l. get_or-set_other mid i k v 0 (λ z. omega arith) ∙ h.kept k (omega arith);
-}

@@ -1,6 +1,6 @@
 -- What it says that no check of a receiver's call fails, and what the invariants of a receiver say.
 use Rattle.std.proofs.Common.{◌≡◌, ℕ, ◌*◌, ◌<◌, ◌≤◌, Bool, true, false, List, length, take, drop, None, Result, ◌∙◌, subst, ap₂, arith}
-use Rattle.std.proofs.lemmas.Bool.{and_parts, eqb-true, eq-eqb, lt-ltb, le-ltb, ltb-true, ltb-false}
+use Rattle.std.proofs.lemmas.Bool.{and_parts, eqb-true, eq-eqb, lt-ltb, ltb-true, ltb-false}
 use Rattle.settings.specs.declared.Settings.{Settings}
 use Rattle.settings.specs.Lengths.{row_length, block_length}
 use Rattle.code.specs.Meaning.{CodeMeaning}
@@ -22,17 +22,13 @@ module _ (s : Settings) where
   pub next_accepted : (answered : ℕ) (memory : List ℕ) → length memory ≡ block_length s → answered < s.rows → next_refusal s answered memory ≡ None
   next_accepted answered memory l h = rw (eq-eqb (length memory) (block_length s) l, lt-ltb answered s.rows h)
 
-  pub feed_accepted : (m : MappingMeaning) (answered : ℕ) (memory : List ℕ) → length memory ≡ block_length s → mapping_fits s m ≡ true → s.rows ≤ answered
-      → feed_refusal s m answered memory ≡ None
-  feed_accepted m answered memory l f h = rw (eq-eqb (length memory) (block_length s) l, f, le-ltb answered s.rows h)
-
   -- a row mended as a part of the memory
-  pub part_mended : (code : CodeMeaning) (i depth size k : ℕ) (memory row : List ℕ) (count : ℕ) (valid : Result Unit RowFault)
-      → depth ≡ s.depth → size ≡ row_length s → k ≡ size
-      → MendedRow depth code (take k (drop (i * size) memory)) row count valid → MendedRow s.depth code (row_at s i memory) row count valid
-  part_mended code i depth size k memory row count valid d e h m =
+  pub part_mended : (code : CodeMeaning) (i size k : ℕ) (memory row : List ℕ) (count : ℕ) (valid : Result Unit RowFault)
+      → size ≡ row_length s → k ≡ size
+      → MendedRow s.depth code (take k (drop (i * size) memory)) row count valid → MendedRow s.depth code (row_at s i memory) row count valid
+  part_mended code i size k memory row count valid e h m =
       let part : take k (drop (i * size) memory) ≡ row_at s i memory = ap₂ (λ a b. take a (drop (i * b) memory)) (h ∙ e) e in
-      subst (λ x. MendedRow x code (row_at s i memory) row count valid) d (subst (λ xs. MendedRow depth code xs row count valid) part m)
+      subst (λ xs. MendedRow s.depth code xs row count valid) part m
 
   -- ---- what an accepted call says of the state and of the memory
 

@@ -1,5 +1,5 @@
 -- Mending a row word by word.
-use Rattle.std.proofs.Common.{◌≡◌, ℕ, ◌+◌, ◌*◌, ◌%◌, ◌<◌, ◌≤◌, List, length, get_or, Ok, Err, Result, sym, refl, ap, ◌∙◌, subst, inl, inr, arith}
+use Rattle.std.proofs.Common.{◌≡◌, ℕ, ◌+◌, ◌*◌, ◌%◌, ◌<◌, ◌≤◌, List, length, get_or, None, Ok, Err, Result, sym, refl, ap, ◌∙◌, subst, inl, inr, arith}
 use Rattle.std.proofs.lemmas.Bool.{ne_eqb, cases_eq}
 use Rattle.std.specs.Result.{result_and}
 use Rattle.octets.specs.Octets.{altered}
@@ -7,12 +7,29 @@ use Rattle.octets.specs.Words.{word_length, word_of, KeepsOthers}
 use Rattle.octets.proofs.Octets.{altered_le, altered_self}
 use Rattle.octets.proofs.Words.{keeps_self, other_word_kept}
 use Rattle.code.specs.Meaning.{CodeMeaning, Reached}
-use Rattle.code.specs.Calls.{Beyond}
-use Rattle.code.specs.declared.fault.MendFault.TheVariants.{Reach}
-use Rattle.link.specs.RowMending.{MendsWord, WordAfter, FirstMended, Verdict, MendedRow}
+use Rattle.code.specs.Refusal.{shape_refusal}
+use Rattle.code.specs.Calls.{Mended, Mends, Beyond}
+use Rattle.code.specs.declared.fault.MendFault.{MendFault}
+use Rattle.code.specs.declared.fault.MendFault.TheVariants.{Shape, Reach}
+use Rattle.link.specs.RowMending.{WordAfter, FirstMended, Verdict}
 use Rattle.link.specs.declared.mending.RowFault.{RowFault}
-use Rattle.link.specs.declared.mending.RowFault.TheVariants.{Word}
 use Rattle.link.proofs.WovenCounts.{altered_in_word, altered_adds}
+
+-- One word of a row is mended, and the octets altered are added to `count`; refused, the row and the count are as they were.
+abbrev pub MendsWord : CodeMeaning → ℕ → ℕ → List ℕ → ℕ → Result Unit RowFault → List ℕ → ℕ → Type 0
+MendsWord code depth word before count (Ok _) after count' = (n : ℕ) × Mended code depth word n before after × (count' ≡ count + n)
+MendsWord code depth word before count (Err fault) after count' =
+    (fault ≡ record { word = word; fault = Reach }) × Beyond code (word_of depth word before) × (after ≡ before) × (count' ≡ count)
+
+pub word_mended : (code : CodeMeaning) (depth word : ℕ) (before : List ℕ) (count n : ℕ) (after : List ℕ)
+    → Mends code depth word before (Ok n) after → MendsWord code depth word before count (Ok tt) after (count + n)
+word_mended code depth word before count n after (e, m) = (n, m, refl)
+
+pub word_left : (code : CodeMeaning) (depth word : ℕ) (before : List ℕ) (count : ℕ) (after : List ℕ) (fault : MendFault)
+    → shape_refusal depth word before ≡ None → Mends code depth word before (Err fault) after
+    → MendsWord code depth word before count (Err (record { word = word; fault = fault })) after count
+word_left code depth word before count after (Shape fault) there (e, same) = let z : ◌≡◌ {A = ℕ} 0 1 = cc in absurd (omega arith)
+word_left code depth word before count after Reach there (e, beyond, same) = (refl, beyond, same, refl)
 
 -- a row whose first `upto` words are mended; the octets of the others are as they were
 pub record MendedUpTo (depth : ℕ) (code : CodeMeaning) (before : List ℕ) (upto : ℕ) (after : List ℕ) (count : ℕ) (valid : Result Unit RowFault) : Type 0 where
@@ -106,17 +123,17 @@ module _ (depth : ℕ) (code : CodeMeaning) (before : List ℕ) (w : ℕ) (low :
         (subst (λ xs. Reached code xs (word_of depth w row')) (held.rest_words w (omega arith) low) m.reached)
     | inr ne ↦ first_kept row count (Ok u) held row' count' (Ok u') (n, m, e) w (omega arith) held.verdict v (omega arith)
   ]
-  verdict_next row row' count count' (Ok u) (Err (Word v fault)) held (f, b, same, e) =
-      let at : v ≡ w = cc in
-      let why : fault ≡ Reach = cc in (
+  verdict_next row row' count count' (Ok u) (Err fault) held (f, b, same, e) =
+      let at : fault.word ≡ w = cc in
+      let why : fault.fault ≡ Reach = cc in (
         omega arith,
         why,
         subst (λ x. Beyond code (word_of depth x before)) (sym at) (subst (λ xs. Beyond code xs) (held.rest_words w (omega arith) low) b),
-        first_kept row count (Ok u) held row' count' (Err (Word v fault)) (f, b, same, e) v (omega arith) (λ x l. held.verdict x (omega arith)),
+        first_kept row count (Ok u) held row' count' (Err fault) (f, b, same, e) fault.word (omega arith) (λ x l. held.verdict x (omega arith)),
       )
-  verdict_next row row' count count' (Err (Word v fault)) answer held done =
+  verdict_next row row' count count' (Err fault) answer held done =
       let h = held.verdict in
-      (omega (arith, h.0), h.1, h.2, first_kept row count (Err (Word v fault)) held row' count' answer done v (omega (arith, h.0)) h.3)
+      (omega (arith, h.0), h.1, h.2, first_kept row count (Err fault) held row' count' answer done fault.word (omega (arith, h.0)) h.3)
 
   -- a word more
   pub mended_more : (row row' : List ℕ) (count count' : ℕ) (valid answer : Result Unit RowFault)
@@ -134,7 +151,25 @@ module _ (depth : ℕ) (code : CodeMeaning) (before : List ℕ) (w : ℕ) (low :
         verdict = verdict_next row row' count count' valid answer held done;
       }
 
--- all words
-pub mended_all : (depth : ℕ) (code : CodeMeaning) (before row : List ℕ) (count : ℕ) (valid : Result Unit RowFault)
-    → MendedUpTo depth code before depth row count valid → MendedRow depth code before row count valid
-mended_all depth code before row count valid h = record { size = h.size; words = h.words; counted = h.counted; verdict = h.verdict }
+-- Ok is no refusal to be kept
+and_ok : (valid : Result Unit RowFault) → result_and valid (Ok tt) ≡ valid
+and_ok (Ok u) = refl
+and_ok (Err fault) = refl
+
+pub mends_at : (code : CodeMeaning) (d depth w : ℕ) (row : List ℕ) (r r' : Result ℕ MendFault) (row' : List ℕ)
+    → d ≡ depth → r ≡ r' → Mends code d w row r row' → Mends code depth w row r' row'
+mends_at code d depth w row r r' row' e f m = subst (λ x. Mends code depth w row x row') f (subst (λ k. Mends code k w row r row') e m)
+
+-- what mend answers of the next word, as it is taken up in the loop
+module _ (depth : ℕ) (code : CodeMeaning) (before : List ℕ) (w : ℕ) (low : w < depth) (row row' : List ℕ) (count : ℕ) (valid : Result Unit RowFault)
+    (held : MendedUpTo depth code before w row count valid) where
+  pub mended_ok : (n : ℕ) → Mends code depth w row (Ok n) row' → MendedUpTo depth code before (w + 1) row' (count + n) valid
+  mended_ok n m =
+      subst (MendedUpTo depth code before (w + 1) row' (count + n)) (and_ok valid)
+      (mended_more depth code before w low row row' count (count + n) valid (Ok tt) held (word_mended code depth w row count n row' m))
+
+  pub mended_err : (fault : MendFault) → shape_refusal depth w row ≡ None → Mends code depth w row (Err fault) row'
+      → MendedUpTo depth code before (w + 1) row' count (result_and valid (Err (record { word = w; fault = fault })))
+  mended_err fault there m =
+      mended_more depth code before w low row row' count count valid (Err (record { word = w; fault = fault })) held
+      (word_left code depth w row count row' fault there m)

@@ -1,7 +1,6 @@
 -- Encoding a row word by word.
-use Rattle.std.proofs.Common.{◌≡◌, ℕ, ◌+◌, ◌*◌, ◌/◌, ◌%◌, ◌<◌, ◌≤◌, true, List, ◌++◌, length, get_or, take, drop, None, Ok, Err, Result, sym, ap, ◌∙◌, subst, inl, inr, arith, length-append, length-drop}
-use Rattle.std.proofs.lemmas.Nat.{mul-le}
-use Rattle.std.proofs.lemmas.List.{ext_get_or, get_or_append_left, get_or-take, length-take-le}
+use Rattle.std.proofs.Common.{◌≡◌, ℕ, ◌+◌, ◌*◌, ◌/◌, ◌%◌, ◌<◌, ◌≤◌, true, List, length, get_or, None, Ok, Err, Result, sym, ap, ◌∙◌, subst, inl, inr, arith}
+use Rattle.std.proofs.lemmas.List.{get_or-take}
 use Rattle.std.proofs.lemmas.Bool.{eq-eqb, eqb-true, cases_eq, cases_Bool, lt-ltb}
 use Rattle.octets.specs.Words.{word_length, word_place, word_of, of_word}
 use Rattle.octets.proofs.Words.{place_from, place_index_below, word_at, other_word_kept}
@@ -10,7 +9,7 @@ use Rattle.code.specs.Meaning.{CodeMeaning}
 use Rattle.code.specs.Refusal.{shape_refusal}
 use Rattle.code.specs.Calls.{Encoded, Encodes}
 use Rattle.code.specs.declared.fault.ShapeFault.{ShapeFault}
-use Rattle.link.specs.Frames.{frame_length, EncodedFrame}
+use Rattle.link.specs.Frames.{frame_length}
 
 -- a word that there is
 pub word_there : (depth word : ℕ) (row : List ℕ) → depth_is_allowed depth ≡ true → length row ≡ word_length * depth → word < depth → shape_refusal depth word row ≡ None
@@ -63,26 +62,3 @@ module _ (depth : ℕ) (code : CodeMeaning) (frame : List ℕ) (some : 0 < depth
       begins = λ q l. frame_kept q l ∙ held.begins q l;
       words = word_next;
     }
-
-  -- all words
-  pub encoded_all : (row : List ℕ) → length frame ≡ frame_length depth code → EncodedUpTo depth code frame depth row → EncodedFrame depth code frame row
-  encoded_all row size h =
-      let fits : frame_length depth code ≤ length row = omega (arith, h.size, mul-le code.information depth word_length depth few (omega arith)) in
-      let cut : length (take (frame_length depth code) row) ≡ frame_length depth code = length-take-le (frame_length depth code) row fits in
-      record {
-        size = h.size;
-        begins = ext_get_or 0 (take (frame_length depth code) row) frame (cut ∙ sym size) (λ q l.
-            let lq : q < frame_length depth code = subst (λ n. q < n) cut l in
-            get_or-take (frame_length depth code) row q 0 lq ∙ h.begins q lq);
-        words = h.words;
-      }
-
--- the frame put to the front of the row, and no word encoded yet
-pub encoded_none : (depth : ℕ) (code : CodeMeaning) (frame row part : List ℕ) (k : ℕ) → length row ≡ word_length * depth
-    → length frame ≡ frame_length depth code → length frame ≤ length row → k ≡ length frame → part ≡ frame
-    → EncodedUpTo depth code frame 0 (part ++ drop k row)
-encoded_none depth code frame row part k size whole fits at e = record {
-  size = length-append part (drop k row) ∙ omega (arith, ap length e, length-drop k row);
-  begins = λ q l. get_or_append_left part (drop k row) 0 q (omega (arith, ap length e)) ∙ ap (λ xs. get_or xs q 0) e;
-  words = λ w l. absurd (omega arith);
-}

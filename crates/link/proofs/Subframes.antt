@@ -15,21 +15,21 @@ use Rattle.link.proofs.Lengths.{data_fills}
 use Rattle.link.proofs.Pieces.{front_none, front_more}
 use Rattle.link.proofs.Tables.{mapping_sizes}
 
--- a stretch that is not refused is written, whatever the answer is taken for
-pub written_from_answer : (m : MappingMeaning) (memory : List ℕ) (start : ℕ) (before after : List ℕ) (r : Result ℕ MappingFault)
-    → start + length before ≤ block_size m → start < block_size m → length memory ≡ block_size m → WriteAnswer m memory start before after r
-    → FrontWritten (λ i. line_octet m memory (start + i)) (length before) before after
-written_from_answer m memory start before after (Ok taken) fits low size (e, w) =
-    let all : taken ≡ length before = omega (arith, w.taken_is) in
-    record {
-      size = w.size;
-      written = λ i l. w.written i (omega arith);
-      kept = λ i l. w.kept i (omega arith);
-    }
-written_from_answer m memory start before after (Err fault) fits low size (e, same) =
+-- a stretch that ends within the block is not refused, and is written whole
+pub answer_is : (m : MappingMeaning) (memory : List ℕ) (start : ℕ) (before after : List ℕ) (r : Result ℕ MappingFault)
+    → start + length before ≤ block_size m → start < block_size m → length memory ≡ block_size m → WriteAnswer m memory start before after r → r ≡ Ok (length before)
+answer_is m memory start before after (Ok taken) fits low size (e, w) = ap Ok (omega (arith, w.taken_is))
+answer_is m memory start before after (Err fault) fits low size (e, same) =
     let none : stretch_refusal m (length memory) start ≡ None = rw (lt-ltb start (block_size m) low, eq-eqb (length memory) (block_size m) size) in
     let z : ◌≡◌ {A = ℕ} 0 1 = cc in
     absurd (omega arith)
+
+pub written_from_answer : (m : MappingMeaning) (memory : List ℕ) (start : ℕ) (before after : List ℕ) (r : Result ℕ MappingFault)
+    → r ≡ Ok (length before) → WriteAnswer m memory start before after r → FrontWritten (λ i. line_octet m memory (start + i)) (length before) before after
+written_from_answer m memory start before after (Ok taken) e (accepted, w) =
+    let all : taken ≡ length before = cc in
+    record { size = w.size; written = λ i l. w.written i (omega arith); kept = λ i l. w.kept i (omega arith) }
+written_from_answer m memory start before after (Err fault) e answer = let z : ◌≡◌ {A = ℕ} 0 1 = cc in absurd (omega arith)
 
 module _ (s : Settings) (place p : ℕ) (ep : p ≡ period s) (low : place < line_length s) where
   pub place_split : place / p * p + place % p ≡ place
@@ -66,14 +66,14 @@ module _ (s : Settings) (place p : ℕ) (ep : p ≡ period s) (low : place < lin
       };
     }
 
-    module _ (d k taken : ℕ) (before part : List ℕ) (r : Result ℕ MappingFault) (ed : d ≡ subframe_data s)
+    module _ (d taken : ℕ) (before part : List ℕ) (r : Result ℕ MappingFault) (ed : d ≡ subframe_data s)
         (fits : mapping_fits s m ≡ true) (size : length memory ≡ block_length s) (in_data : 7 ≤ place % p)
-        (taken_is : taken ≡ min (length before) (p - place % p)) (k-is : k ≡ taken)
-        (answer : WriteAnswer m memory (place / p * d + (place % p - 7)) (take k before) part r) where
+        (taken_is : taken ≡ min (length before) (p - place % p))
+        (answer : WriteAnswer m memory (place / p * d + (place % p - 7)) (take taken before) part r) where
       abbrev start : ℕ
       start = place / p * d + (place % p - 7)
 
-      part_length : length (take k before) ≡ taken
+      part_length : length (take taken before) ≡ taken
       part_length = simp length-take (omega arith)
 
       data_end : (place / p + 1) * d ≤ block_size m
@@ -81,10 +81,17 @@ module _ (s : Settings) (place p : ℕ) (ep : p ≡ period s) (low : place < lin
           subst (λ n. (place / p + 1) * n ≤ block_size m) (sym ed)
           (omega (arith, mul-le (place / p + 1) (subframe_data s) (subframes s) (subframe_data s) (omega (arith, count_below)) (omega arith), data_fills s, (mapping_sizes s m fits).block_is))
 
-      data_written : FrontWritten (λ i. line_octet m memory (start + i)) (length (take k before)) (take k before) part
-      data_written =
-          written_from_answer m memory start (take k before) part r
+      whole_answer : r ≡ Ok (length (take taken before))
+      whole_answer =
+          answer_is m memory start (take taken before) part r
           (omega (arith, part_length, data_end, offset_below)) (omega (arith, data_end, offset_below)) (size ∙ sym (mapping_sizes s m fits).block_is) answer
+
+      data_written : FrontWritten (λ i. line_octet m memory (start + i)) (length (take taken before)) (take taken before) part
+      data_written =
+          written_from_answer m memory start (take taken before) part r whole_answer answer
+
+      pub piece_answer : r ≡ Ok taken
+      piece_answer = whole_answer ∙ ap Ok part_length
 
       octet_is : (i : ℕ) → i < taken → line_octet m memory (start + i) ≡ from (block_line s m memory) place i
       octet_is i l =
@@ -94,14 +101,14 @@ module _ (s : Settings) (place p : ℕ) (ep : p ≡ period s) (low : place < lin
           ∙ sym (line_at_data s m memory (place / p) (place % p - 7 + i) count_below (omega arith))
           ∙ ap (λ n. get_or (block_line s m memory) n 0) on
 
-      pub piece_of_data : PieceWritten s m memory place taken before (part ++ drop k before)
+      pub piece_of_data : PieceWritten s m memory place taken before (part ++ drop taken before)
       piece_of_data = record {
         some = λ room. omega (arith, offset_below);
         fits = omega arith;
         within = omega (arith, place_split, subframe_end, offset_below);
-        front = subst (λ n. FrontWritten (from (block_line s m memory) place) n before (part ++ drop k before)) (zero-add taken)
-            (front_more (from (block_line s m memory) place) (λ i. line_octet m memory (start + i)) 0 k taken before before part
+        front = subst (λ n. FrontWritten (from (block_line s m memory) place) n before (part ++ drop taken before)) (zero-add taken)
+            (front_more (from (block_line s m memory) place) (λ i. line_octet m memory (start + i)) 0 taken taken before before part
             (front_none (from (block_line s m memory) place) before)
-            (subst (λ n. FrontWritten (λ i. line_octet m memory (start + i)) n (take k before) part) part_length data_written)
+            (subst (λ n. FrontWritten (λ i. line_octet m memory (start + i)) n (take taken before) part) part_length data_written)
             (λ i l. octet_is i l ∙ ap (from (block_line s m memory) place) (sym (zero-add i))) (omega arith) (omega arith));
       }

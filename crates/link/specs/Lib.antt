@@ -1,6 +1,7 @@
 pub mod Frames
 pub mod Line
 pub mod Refusal
+pub mod LineMade
 pub mod Pieces
 pub mod SenderSteps
 pub mod Sender

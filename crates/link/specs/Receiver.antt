@@ -19,16 +19,16 @@ use Rattle.link.specs.declared.receiver.Receiver.{Receiver}
 module _ {C M : Type 0} {codes : Codes C} {mappings : Mappings M} where
   -- a receiver as made, of just these settings, this code and this mapping
   pub record ReceiverAsMade (s : Settings) (c : C) (m : M) (made : Receiver C M codes mappings) : Type 0 where
-    pub settings_is : made.settings ≡ s
+    pub settings_is : made.line.settings ≡ s
     pub code_is : made.code ≡ c
-    pub mapping_is : made.mapping ≡ m
+    pub mapping_is : made.line.mapping ≡ m
     pub state_is : made.state ≡ receiver_made s
 
   -- what no call changes
   pub record ReceiverKeeps (a b : Receiver C M codes mappings) : Type 0 where
-    pub settings_kept : b.settings ≡ a.settings
+    pub settings_kept : b.line.settings ≡ a.line.settings
     pub code_kept : b.code ≡ a.code
-    pub mapping_kept : b.mapping ≡ a.mapping
+    pub mapping_kept : b.line.mapping ≡ a.line.mapping
 
 -- the calls, over the meanings that the types of the code and of the mapping give
 module _ {C M : Type 0} {codes : Codes C} {mappings : Mappings M} (code : C → CodeMeaning) (mapping : M → MappingMeaning) where
@@ -38,12 +38,12 @@ module _ {C M : Type 0} {codes : Codes C} {mappings : Mappings M} (code : C → 
   MakesReceiver s c m (Err fault) = (mapping_fits s (mapping m) ≡ false) × (fault ≡ Mapping)
 
   pub record Feeds (a : Receiver C M codes mappings) (memory input : List ℕ) (r : Result (ℕ × Option Report) FeedFault) (b : Receiver C M codes mappings) (memory' : List ℕ) : Type 0 where
-    pub step : FeedStep a.settings (mapping a.mapping) a.state memory input r b.state memory'
+    pub step : FeedStep a.line.settings (mapping a.line.mapping) a.state memory input r b.state memory'
     pub kept : ReceiverKeeps a b
 
   pub record Nexts (a : Receiver C M codes mappings) (memory : List ℕ) (r : Result NextAnswer NextFault) (b : Receiver C M codes mappings) (memory' : List ℕ) : Type 0 where
-    pub step : NextStep a.settings (code a.code) a.state memory r b.state memory'
+    pub step : NextStep a.line.settings (code a.code) a.state memory r b.state memory'
     pub kept : ReceiverKeeps a b
 
   abbrev pub Shows : Receiver C M codes mappings → List ℕ → Result (List ℕ) ShowFault → Type 0
-  Shows a memory r = ShowStep a.settings (code a.code) a.state memory r
+  Shows a memory r = ShowStep a.line.settings (code a.code) a.state memory r

@@ -16,7 +16,6 @@ use Rattle.link.specs.declared.reception.FeedFault.{FeedFault}
 use Rattle.link.specs.declared.reception.NextFault.{NextFault}
 use Rattle.link.specs.declared.reception.ShowFault.{ShowFault}
 use Rattle.link.specs.declared.reception.BlockFault.{BlockFault}
-use Rattle.link.specs.declared.reception.BlockFault.TheVariants.{Row}
 use Rattle.link.specs.declared.reception.NextAnswer.{NextAnswer}
 use Rattle.link.specs.declared.report.Report.{Report}
 
@@ -44,7 +43,7 @@ FeedStep s m a memory input (Err fault) b memory' = (feed_refusal s m a.answered
 -- The row's answer; to a refusal the row's number is added.
 abbrev pub at_row : {X : Type 0} → Result X RowFault → ℕ → Result X BlockFault
 at_row (Ok x) row = Ok x
-at_row (Err fault) row = Err (Row row fault)
+at_row (Err fault) row = Err (record { row = row; fault = fault })
 
 -- 1 on the first row of the first block after a lock, else 0
 abbrev pub gap_at : ReceiverState → ℕ

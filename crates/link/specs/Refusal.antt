@@ -35,8 +35,8 @@ mapping_fits s m = m.depth == s.depth && m.rows == s.rows
 abbrev pub memory_fits : Settings → List ℕ → Bool
 memory_fits s memory = length memory == block_length s
 
--- The memory has B octets in the eyes of the mapping too. Making an end refuses a mapping that does not fit the settings, so of an end that
--- was made this says no more than `memory_fits`. A mapping's fit can't be an invariant of the end's type, so it is looked at again.
+-- The memory has B octets in the eyes of the mapping too. The type of an end keeps that its mapping fits the settings, so of an end this says
+-- no more than `memory_fits`.
 abbrev pub block_fits : Settings → MappingMeaning → List ℕ → Bool
 block_fits s m memory = memory_fits s memory && mapping_fits s m
 
@@ -56,7 +56,7 @@ draw_refusal s put memory =
     cond (nat_lt put s.rows) (Some draw-fault.TheVariants.Unfilled) None
     ) (Some draw-fault.TheVariants.Memory)
 
--- draw, of any sender and any mapping: where the mapping does not fit, no memory is one of B octets for it. Making a sender refuses such a
--- mapping, so of a sender that was made this is `draw_refusal`; a mapping's fit can't be an invariant of the sender's type.
+-- draw, of any sender and any mapping: where the mapping does not fit, no memory is one of B octets for it. A sender's
+-- type keeps that its mapping fits, so of a sender this is `draw_refusal`.
 abbrev pub draw_refusal_by : Settings → MappingMeaning → ℕ → List ℕ → Option DrawFault
 draw_refusal_by s m put memory = cond (mapping_fits s m) (draw_refusal s put memory) (Some draw-fault.TheVariants.Memory)

@@ -8,6 +8,7 @@ mod fault;
 mod feeding;
 mod fitting;
 mod hearing;
+mod line;
 mod mending;
 mod receiver;
 mod receiving;
@@ -21,7 +22,7 @@ mod theorems;
 
 pub use chunking::any_chunking_stands;
 pub use fault::{DrawFault, MakingFault, PutFault};
-pub use feeding::Feeding;
+pub use feeding::{Feeding, Stop};
 pub use fitting::mapping_fits;
 pub use mending::{RowAnswer, RowFault};
 pub use receiver::Receiver;

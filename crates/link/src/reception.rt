@@ -68,14 +68,15 @@ impl ShowFault {
 }
 
 // A row of the block is not mended: which, and why.
-#[derive(Clone, Copy)]
-pub enum BlockFault {
-    Row(usize, RowFault),
+#[derive(Clone, Copy, Debug, PartialEq, Eq)]
+pub struct BlockFault {
+    pub row: usize,
+    pub fault: RowFault,
 }
 
 // A row of the block: its number, the octets altered, the gap (1 on the first row of the first block after a lock, else 0),
 // and whether it is valid: if not, the first word that is not mended.
-#[derive(Drop)]
+#[derive(Clone, Copy, Debug, PartialEq, Eq)]
 pub struct NextAnswer {
     pub row: usize,
     pub altered: usize,

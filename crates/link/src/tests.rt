@@ -16,28 +16,34 @@ const FACTOR: u64 = 0x0000_0100_0000_01B3;
 
 // The digest of some octets behind others.
 fn digest(before: u64, octets: &[u8]) -> u64 {
-    let mut sum = before;
-    for octet in octets {
-        sum = (sum ^ u64::from(*octet)).wrapping_mul(FACTOR);
-    }
-    sum
+    octets.iter().fold(before, |sum, octet| {
+        (sum ^ u64::from(*octet)).wrapping_mul(FACTOR)
+    })
 }
 
-// The generator's next number (xorshift, 32 digits).
-fn next(number: u32) -> u32 {
-    let a = number ^ (number << 13);
-    let b = a ^ (a >> 17);
-    b ^ (b << 5)
-}
+// A generator of numbers (xorshift, 32 digits), by its latest.
+#[derive(Clone, Copy)]
+struct Generator(u32);
 
-// Fills a frame with the first octets of the generator's numbers, and answers the last number.
-fn fill(frame: &mut [u8], number: u32) -> u32 {
-    let mut last = number;
-    for octet in frame.iter_mut() {
-        last = next(last);
-        *octet = (last >> 24) as u8;
+impl Generator {
+    fn next(&mut self) -> u32 {
+        let a = self.0 ^ (self.0 << 13);
+        let b = a ^ (a >> 17);
+        self.0 = b ^ (b << 5);
+        self.0
     }
-    last
+
+    // The first 24 digits of the next number.
+    fn draw(&mut self) -> usize {
+        (self.next() >> 8) as usize
+    }
+
+    // Fills octets with the first digits of the next numbers.
+    fn fill(&mut self, octets: &mut [u8]) {
+        for octet in octets {
+            *octet = (self.next() >> 24) as u8;
+        }
+    }
 }
 
 // What was drawn: the digest of the octets, how many, and the draws refused.
@@ -48,111 +54,76 @@ struct Figures {
     refused: usize,
 }
 
-// Puts a generated frame, and answers its row and the generator's last number.
-fn put_frame<M: Mapping>(
-    sender: &mut Sender<Bare, M>,
-    memory: &mut [u8],
-    frame: &mut [u8],
-    number: u32,
-) -> Result<(usize, u32), Fail> {
-    let last = fill(frame, number);
-    let Ok(row) = sender.put(memory, frame) else {
-        return Err(Fail::new("put refused"));
-    };
-    Ok((row, last))
+impl Figures {
+    // Draws a piece.
+    fn draw<M: Mapping>(&mut self, sender: &mut Sender<Bare, M>, memory: &[u8], out: &mut [u8]) {
+        // Kept: no contract bounds these sums, so they wrap; they come nowhere near it.
+        match sender.draw(memory, out) {
+            Ok(taken) => {
+                self.digest = digest(self.digest, &out[..taken]);
+                self.octets = self.octets.wrapping_add(taken);
+            }
+            Err(_) => self.refused = self.refused.wrapping_add(1),
+        }
+    }
+
+    // Draws in pieces of changing sizes, past the block's end.
+    fn draw_block<M: Mapping>(&mut self, sender: &mut Sender<Bare, M>, memory: &[u8]) {
+        for turn in 0..400 {
+            let mut out = [0; 127];
+            let size = (turn * 41 + 1) % 127;
+            self.draw(sender, memory, &mut out[..size]);
+        }
+    }
 }
 
-// Puts as many frames as the block has rows, sees that one more is refused, and answers the generator's last number.
+// Puts as many frames as the block has rows, and sees that one more is refused.
 fn put_block<M: Mapping>(
     rt: &impl Abort,
     sender: &mut Sender<Bare, M>,
     settings: &Settings,
     memory: &mut [u8],
-    number: u32,
-) -> Result<u32, Fail> {
+    generator: &mut Generator,
+) -> Result<(), Fail> {
     let width = settings.row_length();
     assert!(rt; width <= 2040);
-    let mut last = number;
+    let mut octets = [0; 2040];
+    let frame = &mut octets[..width];
     for row in 0..settings.rows() {
-        let mut frame = [0; 2040];
-        let (put, next) = put_frame(sender, memory, &mut frame[0..width], last)?;
-        assert_eq!(rt; put, row);
-        last = next;
+        generator.fill(frame);
+        assert_eq!(rt; sender.put(memory, frame)?, row);
     }
-    let more = [0; 2040];
-    assert!(rt; sender.put(memory, &more[0..width]).is_err());
-    Ok(last)
+    assert!(rt; sender.put(memory, frame).is_err());
+    Ok(())
 }
 
-// Draws a piece.
-fn draw_piece<M: Mapping>(
-    sender: &mut Sender<Bare, M>,
-    memory: &[u8],
-    out: &mut [u8],
-    before: Figures,
-) -> Figures {
-    let mut figures = before;
-    match sender.draw(memory, out) {
-        Ok(taken) => {
-            figures.digest = digest(figures.digest, &out[0..taken.min(out.len())]);
-            figures.octets = figures.octets.wrapping_add(taken);
-        }
-        Err(_) => figures.refused = figures.refused.wrapping_add(1),
-    }
-    figures
-}
-
-// Draws in pieces of changing sizes, past the block's end.
-fn draw_block<M: Mapping>(sender: &mut Sender<Bare, M>, memory: &[u8], before: Figures) -> Figures {
-    let mut figures = before;
-    for turn in 0..400 {
-        let mut out = [0; 127];
-        let size = (turn * 41 + 1) % 127;
-        figures = draw_piece(sender, memory, &mut out[0..size], figures);
-    }
-    figures
-}
-
-// Puts and draws two blocks.
-fn send<M: Mapping>(
+// What a sender with this mapping sends of two blocks.
+fn drawn<M: Mapping + Drop>(
     rt: &impl Abort,
-    sender: &mut Sender<Bare, M>,
-    settings: &Settings,
-    memory: &mut [u8],
+    settings: Settings,
+    mapping: M,
 ) -> Result<Figures, Fail> {
-    let mut number = 0x1ACF_FC1D;
+    let block = settings.block_length();
+    assert!(rt; block <= 6120);
+    let mut octets = [0; 6120];
+    let memory = &mut octets[..block];
+    let mut sender = Sender::new(settings, Bare, mapping)?;
+    let mut generator = Generator(0x1ACF_FC1D);
     let mut figures = Figures {
         digest: START,
         octets: 0,
         refused: 0,
     };
     for _ in 0..2 {
-        number = put_block(rt, sender, settings, memory, number)?;
-        figures = draw_block(sender, memory, figures);
+        put_block(rt, &mut sender, &settings, memory, &mut generator)?;
+        figures.draw_block(&mut sender, memory);
     }
     Ok(figures)
 }
 
-// What a sender with this mapping sends.
-fn drawn<M: Mapping + Drop>(
-    rt: &impl Abort,
-    settings: Settings,
-    mapping: M,
-) -> Result<Figures, Fail> {
-    let mut memory = [0; 6120];
-    let block = settings.block_length();
-    assert!(rt; block <= 6120);
-    let Ok(mut sender) = Sender::new(settings, Bare, mapping) else {
-        return Err(Fail::new("not made"));
-    };
-    send(rt, &mut sender, &settings, &mut memory[0..block])
-}
-
 #[test]
 fn a_block_of_two_rows(rt: HostRuntime) -> Result<(), Fail> {
-    let Ok(settings) = Settings::new(1, 2, 5, 1, 1) else {
-        return Err(Fail::new("settings refused"));
-    };
+    let settings = Settings::new(1, 2, 5, 1, 1)?;
     let found = drawn(&rt, settings, BlockMapping::new(settings))?;
     assert_eq!(rt;
         found,
@@ -167,9 +138,7 @@ fn a_block_of_two_rows(rt: HostRuntime) -> Result<(), Fail> {
 
 #[test]
 fn a_randomized_block(rt: HostRuntime) -> Result<(), Fail> {
-    let Ok(settings) = Settings::new(2, 12, 17, 3, 1) else {
-        return Err(Fail::new("settings refused"));
-    };
+    let settings = Settings::new(2, 12, 17, 3, 1)?;
     let found = drawn(&rt, settings, Randomized::over(BlockMapping::new(settings)))?;
     assert_eq!(rt;
         found,
@@ -184,12 +153,8 @@ fn a_randomized_block(rt: HostRuntime) -> Result<(), Fail> {
 
 #[test]
 fn a_randomized_stepped_block(rt: HostRuntime) -> Result<(), Fail> {
-    let Ok(settings) = Settings::new(3, 4, 9, 2, 1) else {
-        return Err(Fail::new("settings refused"));
-    };
-    let Ok(stepped) = SteppedMapping::new(settings, 7) else {
-        return Err(Fail::new("step refused"));
-    };
+    let settings = Settings::new(3, 4, 9, 2, 1)?;
+    let stepped = SteppedMapping::new(settings, 7)?;
     let found = drawn(&rt, settings, Randomized::over(stepped))?;
     assert_eq!(rt;
         found,
@@ -204,12 +169,8 @@ fn a_randomized_stepped_block(rt: HostRuntime) -> Result<(), Fail> {
 
 #[test]
 fn a_stepped_block(rt: HostRuntime) -> Result<(), Fail> {
-    let Ok(settings) = Settings::new(5, 2, 255, 2, 1) else {
-        return Err(Fail::new("settings refused"));
-    };
-    let Ok(stepped) = SteppedMapping::new(settings, 200) else {
-        return Err(Fail::new("step refused"));
-    };
+    let settings = Settings::new(5, 2, 255, 2, 1)?;
+    let stepped = SteppedMapping::new(settings, 200)?;
     let found = drawn(&rt, settings, stepped)?;
     assert_eq!(rt;
         found,
@@ -224,9 +185,7 @@ fn a_stepped_block(rt: HostRuntime) -> Result<(), Fail> {
 
 #[test]
 fn a_block_of_whole_rows(rt: HostRuntime) -> Result<(), Fail> {
-    let Ok(settings) = Settings::new(8, 3, 2040, 1, 1) else {
-        return Err(Fail::new("settings refused"));
-    };
+    let settings = Settings::new(8, 3, 2040, 1, 1)?;
     let found = drawn(&rt, settings, Randomized::over(BlockMapping::new(settings)))?;
     assert_eq!(rt;
         found,
@@ -242,13 +201,9 @@ fn a_block_of_whole_rows(rt: HostRuntime) -> Result<(), Fail> {
 // Zero frames, randomized, begin the line with the sync word, count 0 and the sequence.
 #[test]
 fn zero_frames(rt: HostRuntime) -> Result<(), Fail> {
-    let Ok(settings) = Settings::new(1, 1, 5, 1, 1) else {
-        return Err(Fail::new("settings refused"));
-    };
+    let settings = Settings::new(1, 1, 5, 1, 1)?;
     let mapping = Randomized::over(BlockMapping::new(settings));
-    let Ok(mut sender) = Sender::new(settings, Bare, mapping) else {
-        return Err(Fail::new("not made"));
-    };
+    let mut sender = Sender::new(settings, Bare, mapping)?;
     let mut memory = [7; 255];
     assert!(rt; sender.put(&mut memory, &[0; 255]).is_ok());
     let mut out = [0; 12];

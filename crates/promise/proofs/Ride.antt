@@ -12,7 +12,6 @@ use Rattle.link.specs.Refusal.{mapping_fits}
 use Rattle.link.specs.RowMending.{FirstMended, Verdict}
 use Rattle.link.specs.ReceiverSteps.{at_row}
 use Rattle.link.specs.declared.mending.RowFault.{RowFault}
-use Rattle.link.specs.declared.mending.RowFault.TheVariants.{Word}
 use Rattle.link.specs.declared.reception.NextAnswer.{NextAnswer}
 use Rattle.link.proofs.Lengths.{line_some}
 use Rattle.link.proofs.Tables.{MappingSizes, mapping_sizes}
@@ -53,7 +52,7 @@ behind_as {calls} {B} same says behind = subst (λ k. Behind k calls B) same (re
 mended_if_valid : (code : CodeMeaning) (depth i : ℕ) (before after : List ℕ) (valid : Result Unit RowFault)
     → Verdict code depth depth before after valid → at_row valid i ≡ Ok tt → FirstMended code depth depth before after
 mended_if_valid code depth i before after (Ok u) all e = all
-mended_if_valid code depth i before after (Err (Word w fault)) some e = let z : ◌≡◌ {A = ℕ} 0 1 = cc in absurd (omega arith)
+mended_if_valid code depth i before after (Err fault) some e = let z : ◌≡◌ {A = ℕ} 0 1 = cc in absurd (omega arith)
 
 -- what calls find behind block b of a link
 abbrev pub FindsBlock : (s : Settings) (code : CodeMeaning) (m : MappingMeaning) → Link s code m → ℕ → Type 0

@@ -17,7 +17,6 @@ use Rattle.link.specs.Frames.{frame_length, EncodedFrame, row_at}
 use Rattle.link.specs.Line.{line_length, block_memory, BeginsLine}
 use Rattle.link.specs.RowMending.{Verdict, MendedRow}
 use Rattle.link.specs.declared.mending.RowFault.{RowFault}
-use Rattle.link.specs.declared.mending.RowFault.TheVariants.{Word}
 use Rattle.link.proofs.OneRow.{same_word}
 use Rattle.link.proofs.Tables.{MappingSizes}
 use Rattle.promise.specs.Reception.{Reception, Taken, line_place, AlteredWithin, AlteredThroughout}
@@ -71,7 +70,7 @@ module _ {sent taken : List ℕ} (s : Settings) (code : CodeMeaning) (m : Mappin
 
       by_verdict : (v : Result Unit RowFault) → Verdict code s.depth s.depth (row_at s i memory) row v → v ≡ Ok tt
       by_verdict (Ok u) all = refl
-      by_verdict (Err (Word w fault)) (hw, e, beyond, first) = absurd (beyond (word_of s.depth w (row_at s i block)) (reached i w low hw))
+      by_verdict (Err fault) (hw, e, beyond, first) = absurd (beyond (word_of s.depth fault.word (row_at s i block)) (reached i fault.word low hw))
 
       pub row_valid : valid ≡ Ok tt
       row_valid = by_verdict valid mended.verdict

@@ -9,6 +9,8 @@ use worst::{MarkerRecord, RowRecord, WorstList};
 #[cfg(test)]
 mod tests;
 
+// Kept: a report and an answer are of one crate and a record is of another, so no From between them can stand here.
+
 // Notes the marker that feed reports: its wrong digits, and its count. Where feed has no report, nothing is noted.
 pub fn note_report(markers: &mut WorstList<'_, MarkerRecord>, report: Option<Report>)
     ensures { MarkerNoted report markers.old markers.new }

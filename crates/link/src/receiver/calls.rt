@@ -2,15 +2,15 @@
 ghost use Rattle.std.specs.Prelude.{◌≡◌, []};
 ghost use Rattle.std.specs.Result.{result_map_both};
 ghost use Rattle.link.specs.Receiver.{MakesReceiver, Feeds, Nexts, Shows};
-ghost use Rattle.link.specs.ReceiverSteps.{at_row, gap_at, state_fed};
+ghost use Rattle.link.specs.ReceiverSteps.{gap_at, state_fed};
 ghost use Rattle.link.specs.FedOctets.{as_fed};
 
-use crate::feeding::feed_octets;
-use crate::fitting::mapping_fits;
+use crate::encoding::frame_length;
+use crate::line::Line;
 use crate::mending::mend_row;
 use crate::{
     BlockFault, FeedFault, Feeding, MakingFault, Mode, NextAnswer, NextFault, Receiver,
-    ReceiverState, Report, RowFault, ShowFault, Window,
+    ReceiverState, Report, ShowFault, Stop, Window,
 };
 use code::Code;
 use mapping::Mapping;
@@ -21,62 +21,40 @@ impl<C: Code + Drop, M: Mapping + Drop> Receiver<C, M> {
     pub fn new(settings: Settings, code: C, mapping: M) -> Result<Receiver<C, M>, MakingFault>
         ensures { MakesReceiver C.Code.meaning M.Mapping.meaning settings code mapping result }
     {
-        if !mapping_fits(&settings, &mapping) {
-            return Err(MakingFault::Mapping);
-        }
+        let line = Line::new(settings, mapping)?;
         let state = ReceiverState {
-            mode: Mode::Hunting(Window {
-                octets: [0; 6],
-                held: 0,
-            }),
+            mode: Mode::Hunting(Window::empty()),
             answered: settings.rows(),
             first: false,
             after_next: false,
         };
-        Ok(Receiver {
-            settings,
-            code,
-            mapping,
-            state,
-        })
+        Ok(Receiver { line, code, state })
     }
 }
 
-// The row's answer; to a refusal the row's number is added.
-fn at_row(valid: Result<(), RowFault>, row: usize) -> Result<(), BlockFault>
-    ensures { result ≡ at_row valid row }
-{
-    match valid {
-        Ok(()) => Ok(()),
-        Err(fault) => Err(BlockFault::Row(row, fault)),
+impl ReceiverState {
+    // Behind a feed: where a block ended, all its frames wait.
+    fn fed(self, fed: Feeding) -> ReceiverState
+        ensures { result ≡ state_fed self (as_fed fed []) }
+    {
+        let (answered, first) = match fed.stop {
+            Some(Stop::Block { first }) => (0, first),
+            _ => (self.answered, self.first),
+        };
+        ReceiverState {
+            mode: fed.mode,
+            answered,
+            first,
+            after_next: false,
+        }
     }
-}
 
-// The gap of the row that is next: 1 on the first row of the first block after a lock, else 0.
-fn gap_at(state: &ReceiverState) -> usize
-    ensures { result ≡ gap_at state.now }
-{
-    if state.answered == 0 && state.first {
-        1
-    } else {
-        0
-    }
-}
-
-// Behind a feed: where a block ended, all its frames wait.
-fn state_fed(state: ReceiverState, fed: Feeding) -> ReceiverState
-    ensures { result ≡ state_fed state (as_fed fed []) }
-{
-    let (answered, first) = if fed.ended {
-        (0, fed.first)
-    } else {
-        (state.answered, state.first)
-    };
-    ReceiverState {
-        mode: fed.mode,
-        answered,
-        first,
-        after_next: false,
+    // The gap of the row that is next: 1 on the first row of the first block after a lock, else 0.
+    // Kept: that number is the answer that docs/FORMAT.md gives.
+    fn gap(self) -> usize
+        ensures { result ≡ gap_at self }
+    {
+        usize::from(self.answered == 0 && self.first)
     }
 }
 
@@ -91,23 +69,16 @@ impl<C: Code, M: Mapping> Receiver<C, M> {
     ) -> Result<(usize, Option<Report>), FeedFault>
         ensures { Feeds C.Code.meaning M.Mapping.meaning self.old memory.old input.now result self.new memory.new }
     {
-        if memory.len() != self.settings.block_length()
-            || !mapping_fits(&self.settings, &self.mapping)
-        {
+        // Kept: each call of an end tests this itself. One helper with `?` would need a From for each of five faults.
+        if memory.len() != self.line.settings.block_length() {
             return Err(FeedFault::Memory);
         }
-        if self.state.answered < self.settings.rows() {
+        if self.state.answered < self.line.settings.rows() {
             return Err(FeedFault::Waiting);
         }
-        let fed = feed_octets(
-            &self.settings,
-            &self.mapping,
-            self.state.mode,
-            memory,
-            input,
-        );
-        self.state = state_fed(self.state, fed);
-        Ok((fed.taken, fed.report))
+        let fed = self.line.feed(self.state.mode, memory, input);
+        self.state = self.state.fed(fed);
+        Ok((fed.taken, fed.report()))
     }
 
     // Mends the next row of the memory that waits, word by word; no octet outside the row is written. A row that is not
@@ -116,32 +87,29 @@ impl<C: Code, M: Mapping> Receiver<C, M> {
     pub(crate) fn next(&mut self, memory: &mut [u8]) -> Result<NextAnswer, NextFault>
         ensures { Nexts C.Code.meaning M.Mapping.meaning self.old memory.old result self.new memory.new }
     {
-        if memory.len() != self.settings.block_length() {
+        let settings = self.line.settings;
+        if memory.len() != settings.block_length() {
             return Err(NextFault::Memory);
         }
         let row = self.state.answered;
-        if row >= self.settings.rows() {
+        if row >= settings.rows() {
             return Err(NextFault::NoneWaits);
         }
-        let size = self.settings.row_length();
+        let size = settings.row_length();
         let start = row * size;
-        let mended = mend_row(
-            &self.code,
-            &mut memory[start..start + size],
-            self.settings.depth(),
-        );
-        let gap = gap_at(&self.state);
+        let part = &mut memory[start..start + size];
+        let mended = mend_row(&self.code, &settings, part);
+        let gap = self.state.gap();
         self.state = ReceiverState {
-            mode: self.state.mode,
             answered: row + 1,
-            first: self.state.first,
             after_next: true,
+            ..self.state
         };
         Ok(NextAnswer {
             row,
             altered: mended.altered,
             gap,
-            valid: at_row(mended.valid, row),
+            valid: mended.valid.map_err(|fault| BlockFault { row, fault }),
         })
     }
 
@@ -151,14 +119,15 @@ impl<C: Code, M: Mapping> Receiver<C, M> {
     pub(crate) fn show<'a>(&self, memory: &'a [u8]) -> Result<&'a [u8], ShowFault>
         ensures { Shows C.Code.meaning M.Mapping.meaning self.now memory.now (result_map_both (λ x. x.now) (λ e. e) result) }
     {
-        if memory.len() != self.settings.block_length() {
+        let settings = self.line.settings;
+        if memory.len() != settings.block_length() {
             return Err(ShowFault::Memory);
         }
         if !self.state.after_next {
             return Err(ShowFault::NotNext);
         }
-        let start = (self.state.answered - 1) * self.settings.row_length();
-        let size = self.code.information() * self.settings.depth();
+        let start = (self.state.answered - 1) * settings.row_length();
+        let size = frame_length(&self.code, &settings);
         Ok(&memory[start..start + size])
     }
 }

@@ -1,9 +1,8 @@
 // What a sender does.
 ghost use Rattle.link.specs.Sender.{Makes, Puts, Draws};
 
-use crate::drawing::{line_length, write_line_from};
-use crate::encoding::encode_frame;
-use crate::fitting::mapping_fits;
+use crate::encoding::{encode_frame, frame_length};
+use crate::line::Line;
 use crate::{DrawFault, MakingFault, PutFault, Sender, SenderState};
 use code::Code;
 use mapping::Mapping;
@@ -14,14 +13,11 @@ impl<C: Code + Drop, M: Mapping + Drop> Sender<C, M> {
     pub fn new(settings: Settings, code: C, mapping: M) -> Result<Sender<C, M>, MakingFault>
         ensures { Makes C.Code.meaning M.Mapping.meaning settings code mapping result }
     {
-        if !mapping_fits(&settings, &mapping) {
-            return Err(MakingFault::Mapping);
-        }
+        let line = Line::new(settings, mapping)?;
         Ok(Sender {
-            settings,
+            line,
             code,
-            mapping,
-            state: SenderState { put: 0, drawn: 0 },
+            state: SenderState::default(),
         })
     }
 }
@@ -33,24 +29,21 @@ impl<C: Code, M: Mapping> Sender<C, M> {
     pub(crate) fn put(&mut self, memory: &mut [u8], frame: &[u8]) -> Result<usize, PutFault>
         ensures { Puts C.Code.meaning M.Mapping.meaning self.old memory.old frame.now result self.new memory.new }
     {
-        if memory.len() != self.settings.block_length() {
+        let settings = self.line.settings;
+        if memory.len() != settings.block_length() {
             return Err(PutFault::Memory);
         }
-        if frame.len() != self.code.information() * self.settings.depth() {
+        if frame.len() != frame_length(&self.code, &settings) {
             return Err(PutFault::Frame);
         }
         let row = self.state.put;
-        if row >= self.settings.rows() {
+        if row >= settings.rows() {
             return Err(PutFault::Full);
         }
-        let size = self.settings.row_length();
+        let size = settings.row_length();
         let start = row * size;
-        encode_frame(
-            &self.code,
-            &mut memory[start..start + size],
-            self.settings.depth(),
-            frame,
-        );
+        let part = &mut memory[start..start + size];
+        encode_frame(&self.code, &settings, part, frame);
         self.state.put = row + 1;
         Ok(row)
     }
@@ -61,23 +54,22 @@ impl<C: Code, M: Mapping> Sender<C, M> {
     pub(crate) fn draw(&mut self, memory: &[u8], out: &mut [u8]) -> Result<usize, DrawFault>
         ensures { Draws C.Code.meaning M.Mapping.meaning self.old memory.now out.old result self.new out.new }
     {
-        if memory.len() != self.settings.block_length()
-            || !mapping_fits(&self.settings, &self.mapping)
-        {
+        if memory.len() != self.line.settings.block_length() {
             return Err(DrawFault::Memory);
         }
-        if self.state.put < self.settings.rows() {
+        if self.state.put < self.line.settings.rows() {
             return Err(DrawFault::Unfilled);
         }
         let place = self.state.drawn;
-        let written = write_line_from(&self.settings, &self.mapping, memory, place, out);
-        self.state = if place + written < line_length(&self.settings) {
+        let written = self.line.write_from(memory, place, out);
+        let drawn = place + written;
+        self.state = if drawn < self.line.length() {
             SenderState {
-                put: self.state.put,
-                drawn: place + written,
+                drawn,
+                ..self.state
             }
         } else {
-            SenderState { put: 0, drawn: 0 }
+            SenderState::default()
         };
         Ok(written)
     }

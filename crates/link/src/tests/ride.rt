@@ -1,109 +1,75 @@
 // Both ends over a line that is covered: junk before it, taken up anywhere, every second marker altered, and in each block a
 // fade of full length. Each frame comes back as it was put; at one octet more, from data place 0 on, a frame is lost.
-use super::fill;
-use super::receiver::{Log, allowed, alter, stepped};
-use crate::{NextAnswer, Receiver, Sender};
+use super::Generator;
+use crate::{Receiver, Sender};
 use code::Code;
-use mapping::{BlockMapping, Mapping, Randomized};
+use mapping::{BlockMapping, Mapping, Randomized, SteppedMapping};
 use rs16::Rs16;
 use settings::Settings;
+use std::ops::Range;
 use std::process::Abort;
 use std::test::Fail;
 
-// The most octets of a block's memory and of its line in these tests.
+// The octets of a frame, of a subframe's data and of a period in these tests: two words of rs16 to a row, a row to a subframe.
+const FRAME: usize = 446;
+
+const DATA: usize = 510;
+
+const PERIOD: usize = 517;
+
+// The octets of a block's frames, of its memory and of its line: three rows to a block.
+const FRAMES: usize = 1338;
+
 const MEMORY: usize = 1530;
 
 const LINE: usize = 1551;
 
-// A link's lengths, and where the line is taken up.
-#[derive(Clone, Copy)]
-struct Course {
-    rows: usize,
-    frame: usize,
-    data: usize,
-    period: usize,
-    fade: usize,
-    taken_up: usize,
+// Alters an octet, to any other.
+fn alter(octet: &mut u8, generator: &mut Generator) {
+    *octet ^= (1 + generator.draw() % 255) as u8;
 }
 
-// A number other than 0 to alter an octet by.
-fn change(log: &mut Log) -> usize {
-    1 + log.draw() % 255
-}
-
-// Alters each of some data places in a row, markers not counted.
-fn alter_run(line: &mut [u8], course: Course, start: usize, length: usize, log: &mut Log) {
-    if course.data == 0 {
-        return;
-    }
-    for i in 0..length {
-        let place = start.wrapping_add(i);
-        let subframe = (place / course.data).wrapping_mul(course.period);
-        let within = (place % course.data).wrapping_add(7);
-        alter(line, subframe.wrapping_add(within), change(log));
+// Alters the octets at these data places, markers not counted.
+fn alter_data(line: &mut [u8; LINE], places: Range<usize>, generator: &mut Generator) {
+    for place in places.start..places.end.min(MEMORY) {
+        alter(
+            &mut line[place / DATA * PERIOD + 7 + place % DATA],
+            generator,
+        );
     }
 }
 
 // Alters one octet of each marker whose number on the line is odd. A block has three of them.
-fn alter_markers(line: &mut [u8], course: Course, block: usize, log: &mut Log) {
-    for subframe in 0..3usize {
-        if block.wrapping_add(subframe) % 2 == 1 {
-            let octet = log.draw() % 7;
-            alter(
-                line,
-                subframe.wrapping_mul(course.period).wrapping_add(octet),
-                change(log),
-            );
+fn alter_markers(line: &mut [u8; LINE], block: usize, generator: &mut Generator) {
+    for marker in 0..3 {
+        if block % 2 != marker % 2 {
+            alter(&mut line[marker * PERIOD + generator.draw() % 7], generator);
         }
     }
 }
 
-// Puts the frames of a block, one behind the other in `frames`, and draws its line in pieces.
+// Puts the frames of a block, and draws its line in pieces.
 fn send<C: Code, M: Mapping>(
     rt: &impl Abort,
     sender: &mut Sender<C, M>,
-    memory: &mut [u8],
-    frames: &mut [u8],
-    course: Course,
+    frames: &[u8],
     line: &mut [u8],
-    log: &mut Log,
+    generator: &mut Generator,
 ) -> Result<(), Fail> {
-    log.number = fill(frames, log.number);
-    for row in 0..course.rows {
-        let start = row.wrapping_mul(course.frame);
-        let end = start.wrapping_add(course.frame);
-        assert!(rt; start <= end && end <= frames.len());
-        let Ok(put) = sender.put(memory, &frames[start..end]) else {
-            return Err(Fail::new("put refused"));
-        };
-        assert!(rt; put == row);
+    let mut memory = [0; MEMORY];
+    for (row, frame) in frames.chunks(FRAME).enumerate() {
+        assert!(rt; sender.put(&mut memory, frame)? == row);
     }
     let mut drawn = 0;
     for _ in 0..LINE {
         let from = drawn.min(line.len());
-        let size = (1 + log.draw() % 400).min(line.len() - from);
+        let size = (1 + generator.draw() % 400).min(line.len() - from);
         if size > 0 {
-            let Ok(count) = sender.draw(memory, &mut line[from..from + size]) else {
-                return Err(Fail::new("draw refused"));
-            };
-            drawn = from.wrapping_add(count);
+            drawn = from + sender.draw(&memory, &mut line[from..from + size])?;
         }
     }
     assert!(rt; drawn == line.len());
     Ok(())
-}
-
-// Whether two rows of octets are the same.
-fn same(a: &[u8], b: &[u8]) -> bool {
-    if a.len() != b.len() {
-        return false;
-    }
-    for i in 0..a.len() {
-        if a[i] != b[i] {
-            return false;
-        }
-    }
-    true
 }
 
 // Whether the next row is this one, valid, and shown as it was put.
@@ -116,33 +82,18 @@ fn row_back<C: Code, M: Mapping>(
     let Ok(answer) = receiver.next(memory) else {
         return false;
     };
-    let NextAnswer {
-        row: answered,
-        valid,
-        ..
-    } = answer;
-    let Ok(shown) = receiver.show(memory) else {
-        return false;
-    };
-    answered == row && valid.is_ok() && same(shown, frame)
+    answer.row == row && answer.valid.is_ok() && receiver.show(memory) == Ok(frame)
 }
 
-// How many of the rows of a block came back so; all that wait are asked for.
+// Whether each row of a block came back so; all that wait are asked for.
 fn rows_back<C: Code, M: Mapping>(
-    rt: &impl Abort,
     receiver: &mut Receiver<C, M>,
     memory: &mut [u8],
     frames: &[u8],
-    course: Course,
-) -> usize {
-    let mut back: usize = 0;
-    for row in 0..course.rows {
-        let start = row.wrapping_mul(course.frame);
-        let end = start.wrapping_add(course.frame);
-        assert!(rt; start <= end && end <= frames.len());
-        if row_back(receiver, memory, row, &frames[start..end]) {
-            back = back.wrapping_add(1);
-        }
+) -> bool {
+    let mut back = true;
+    for (row, frame) in frames.chunks(FRAME).enumerate() {
+        back &= row_back(receiver, memory, row, frame);
     }
     back
 }
@@ -152,45 +103,37 @@ fn feed_on<C: Code, M: Mapping>(
     receiver: &mut Receiver<C, M>,
     memory: &mut [u8],
     octets: &[u8],
-    log: &mut Log,
+    generator: &mut Generator,
 ) {
-    let mut taken: usize = 0;
+    let mut rest = octets;
     for _ in 0..LINE {
-        let from = taken.min(octets.len());
-        let size = (log.draw() % 300).min(octets.len() - from);
-        if let Ok((count, _)) = receiver.feed(memory, &octets[from..from + size]) {
-            taken = from.wrapping_add(count);
+        let size = (generator.draw() % 300).min(rest.len());
+        if let Ok((taken, _)) = receiver.feed(memory, &rest[..size]) {
+            rest = &rest[taken.min(size)..];
         }
     }
 }
 
-// Sends a block, alters a run of its data and its markers, feeds its line, and answers how many of its rows came back.
+// Sends a block, alters these data places of its line and its markers, feeds the line from octet `from` on, and answers
+// whether each row came back.
 fn pass<C: Code, M: Mapping>(
     rt: &impl Abort,
     sender: &mut Sender<C, M>,
     receiver: &mut Receiver<C, M>,
     memory: &mut [u8],
-    course: Course,
     block: usize,
-    run: (usize, usize),
-    log: &mut Log,
-) -> Result<usize, Fail> {
-    let mut sent = [0; MEMORY];
-    let mut octets = [0; MEMORY];
+    altered: Range<usize>,
+    from: usize,
+    generator: &mut Generator,
+) -> Result<bool, Fail> {
+    let mut frames = [0; FRAMES];
     let mut line = [0; LINE];
-    let all = course.rows.wrapping_mul(course.frame);
-    assert!(rt; all <= MEMORY);
-    let frames = &mut octets[0..all];
-    send(rt, sender, &mut sent, frames, course, &mut line, log)?;
-    alter_run(&mut line, course, run.0, run.1, log);
-    alter_markers(&mut line, course, block, log);
-    let from = if block == 0 {
-        course.taken_up.min(LINE)
-    } else {
-        0
-    };
-    feed_on(receiver, memory, &line[from..LINE], log);
-    Ok(rows_back(rt, receiver, memory, frames, course))
+    generator.fill(&mut frames);
+    send(rt, sender, &frames, &mut line, generator)?;
+    alter_data(&mut line, altered, generator);
+    alter_markers(&mut line, block, generator);
+    feed_on(receiver, memory, &line[from.min(LINE)..], generator);
+    Ok(rows_back(receiver, memory, &frames))
 }
 
 // Passes blocks with a fade of full length each; behind the first two, each frame comes back. Then one with a longer one.
@@ -198,26 +141,45 @@ fn ride<C: Code, M: Mapping>(
     rt: &impl Abort,
     sender: &mut Sender<C, M>,
     receiver: &mut Receiver<C, M>,
-    course: Course,
-    log: &mut Log,
+    fade: usize,
+    taken_up: usize,
 ) -> Result<(), Fail> {
-    let mut octets = [0; MEMORY];
-    let memory = &mut octets[0..MEMORY];
-    log.number = fill(memory, log.number);
+    let mut generator = Generator(0x0BAD_CAFE);
+    let mut memory = [0; MEMORY];
+    generator.fill(&mut memory);
     let mut junk = [0; 300];
-    log.number = fill(&mut junk, log.number);
+    generator.fill(&mut junk);
     let false_marker = [0x1A, 0xCF, 0xFC, 0x1D, 0, 0, 0];
-    feed_on(receiver, memory, &junk, log);
-    feed_on(receiver, memory, &false_marker, log);
-    for block in 0..12usize {
-        let start = log.draw() % MEMORY;
-        let run = (start, course.fade.min(MEMORY - start));
-        let back = pass(rt, sender, receiver, memory, course, block, run, log)?;
-        assert!(rt; block < 2 || back == course.rows);
+    feed_on(receiver, &mut memory, &junk, &mut generator);
+    feed_on(receiver, &mut memory, &false_marker, &mut generator);
+    for block in 0..12 {
+        let start = generator.draw() % MEMORY;
+        let altered = start..start.saturating_add(fade);
+        let from = if block == 0 { taken_up } else { 0 };
+        let back = pass(
+            rt,
+            sender,
+            receiver,
+            &mut memory,
+            block,
+            altered,
+            from,
+            &mut generator,
+        )?;
+        assert!(rt; block < 2 || back);
     }
-    let longer = (0, course.fade.wrapping_add(1));
-    let back = pass(rt, sender, receiver, memory, course, 12, longer, log)?;
-    assert!(rt; back < course.rows);
+    let longer = 0..fade.saturating_add(1);
+    let back = pass(
+        rt,
+        sender,
+        receiver,
+        &mut memory,
+        12,
+        longer,
+        0,
+        &mut generator,
+    )?;
+    assert!(rt; !back);
     Ok(())
 }
 
@@ -229,41 +191,23 @@ fn rides<M: Mapping + Drop>(
     receiving: M,
     taken_up: usize,
 ) -> Result<(), Fail> {
-    let Ok(fade) = sending.fade(Rs16.reach()) else {
-        return Err(Fail::new("no fade"));
-    };
-    let course = Course {
-        rows: settings.rows(),
-        frame: Rs16.information().wrapping_mul(settings.depth()),
-        data: settings.subframe_data(),
-        period: settings.period(),
-        fade,
-        taken_up,
-    };
-    let Ok(mut sender) = Sender::new(settings, Rs16, sending) else {
-        return Err(Fail::new("sender not made"));
-    };
-    let Ok(mut receiver) = Receiver::new(settings, Rs16, receiving) else {
-        return Err(Fail::new("receiver not made"));
-    };
-    let mut log = Log {
-        number: 0x0BAD_CAFE,
-        digest: 0,
-    };
-    ride(rt, &mut sender, &mut receiver, course, &mut log)
+    let fade = sending.fade(Rs16.reach())?;
+    let mut sender = Sender::new(settings, Rs16, sending)?;
+    let mut receiver = Receiver::new(settings, Rs16, receiving)?;
+    ride(rt, &mut sender, &mut receiver, fade, taken_up)
 }
 
 #[test]
 fn rides_through_block_randomized(rt: HostRuntime) -> Result<(), Fail> {
-    let settings = allowed(2, 3, 5, 1, 2)?;
+    let settings = Settings::new(2, 3, 5, 1, 2)?;
     let block = BlockMapping::new(settings);
-    for taken_up in 0..9usize {
+    for turn in 0..9 {
         rides(
             &rt,
             settings,
             Randomized::over(block),
             Randomized::over(block),
-            taken_up * 191,
+            turn * 191,
         )?;
     }
     Ok(())
@@ -271,7 +215,7 @@ fn rides_through_block_randomized(rt: HostRuntime) -> Result<(), Fail> {
 
 #[test]
 fn rides_through_stepped(rt: HostRuntime) -> Result<(), Fail> {
-    let settings = allowed(2, 3, 6, 1, 2)?;
-    let mapping = stepped(settings, 7)?;
+    let settings = Settings::new(2, 3, 6, 1, 2)?;
+    let mapping = SteppedMapping::new(settings, 7)?;
     rides(&rt, settings, mapping, mapping, 3)
 }

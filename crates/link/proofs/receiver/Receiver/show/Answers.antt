@@ -6,10 +6,10 @@ use Rattle.link.proofs.receiver.Receiver.show.Goals as goal
 
 pub slice_bounds-result-end : goal.slice_bounds-result-end
 slice_bounds-result-end g c =
-    let s = c.args.self.now.settings in
+    let s = c.args.self.now.line.settings in
     let n = c.args.self.now.state.answered in
     let some : 0 < n = answered_some c.args.self.now.state.after_next n c.args.self.now.next_fits c.if-not-self.false in
     let few = (g.met.C.Code.lawful c.args.self.now.code).information_fits in
-    let within : (n - 1) * c.row_length.result + c.information.result * c.depth.result ≤ length c.args.memory.now =
-    omega (arith, row_top s (n - 1) (omega arith), ap (λ k. (n - 1) * k) c.row_length.ensures, mul-le c.information.result c.depth.result 255 s.depth (omega arith) (omega arith)) in
+    let within : (n - 1) * c.row_length.result + c.frame_length-size.result ≤ length c.args.memory.now =
+    omega (arith, row_top s (n - 1) (omega arith), ap (λ k. (n - 1) * k) c.row_length.ensures, c.frame_length-size.ensures, mul-le (g.C.Code.meaning c.args.self.now.code).information s.depth 255 s.depth few (omega arith)) in
     search rules

@@ -1,27 +1,26 @@
-use Rattle.std.proofs.Common.{◌+◌, ◌*◌, ◌<◌, ◌≤◌, length, refl, ap, ◌∙◌, subst, ap₂, arith, rules}
-use Rattle.link.specs.Frames.{EncodedFrame}
+use Rattle.std.proofs.Common.{◌+◌, ◌*◌, ◌<◌, ◌≤◌, length, refl, ap, ◌∙◌, arith, rules}
 use Rattle.link.proofs.Tables.{put_accepted}
 use Rattle.link.proofs.Rows.{row_top, row_put}
 use Rattle.link.proofs.sender.Sender.put.Goals as goal
 
-pub slice_bounds-encode_frame-end : goal.slice_bounds-encode_frame-end
-slice_bounds-encode_frame-end g c =
-    let low : c.args.self.now.state.put < c.args.self.now.settings.rows = omega arith in
+pub slice_bounds-part-end : goal.slice_bounds-part-end
+slice_bounds-part-end g c =
+    let low : c.args.self.now.state.put < c.args.self.now.line.settings.rows = omega arith in
     let within : c.args.self.now.state.put * c.row_length-size.result + c.row_length-size.result ≤ length c.args.memory.now =
-    omega (arith, row_top c.args.self.now.settings c.args.self.now.state.put low, ap (λ n. c.args.self.now.state.put * n) c.row_length-size.ensures) in
+    omega (arith, row_top c.args.self.now.line.settings c.args.self.now.state.put low, ap (λ n. c.args.self.now.state.put * n) c.row_length-size.ensures) in
     search rules
 
 pub returns : goal.returns
 returns g c = record {
   step = record {
-    accepted = put_accepted c.args.self.now.settings (g.C.Code.meaning c.args.self.now.code) c.args.self.now.state.put c.args.memory.now c.args.frame.now
+    accepted = put_accepted c.args.self.now.line.settings (g.C.Code.meaning c.args.self.now.code) c.args.self.now.state.put c.args.memory.now c.args.frame.now
         (omega (arith, c.block_length.ensures))
-        (c.if-frame-information.false ∙ ap₂ (λ n d. n * d) c.information.ensures c.depth.ensures)
+        (c.if-frame-frame_length.false ∙ c.frame_length.ensures)
         (omega (arith, c.rows.ensures));
     row = c.encode_frame.new.row;
-    encoded = subst (λ d. EncodedFrame d (g.C.Code.meaning c.args.self.now.code) c.args.frame.now c.encode_frame.new.row) c.depth-2.ensures c.encode_frame.ensures;
+    encoded = c.encode_frame.ensures;
     answer = refl;
-    stored = row_put c.args.self.now.settings c.args.self.now.state.put c.row_length-size.result _ c.encode_frame.new.row c.args.memory.now c.row_length-size.ensures (omega arith);
+    stored = row_put c.args.self.now.line.settings c.args.self.now.state.put c.row_length-size.result _ c.encode_frame.new.row c.args.memory.now c.row_length-size.ensures (omega arith);
     after = refl;
   };
   kept = record { settings_kept = refl; code_kept = refl; mapping_kept = refl };

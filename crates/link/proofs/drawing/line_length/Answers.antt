@@ -1,6 +1,0 @@
-use Rattle.std.proofs.Common.{◌*◌, ap₂, arith}
-use Rattle.link.proofs.Lengths.{line_high}
-use Rattle.link.proofs.drawing.line_length.Goals as goal
-
-pub overflow_mul-result : goal.overflow_mul-result
-overflow_mul-result c = omega (arith, line_high c.args.settings.now, ap₂ (λ a b. a * b) c.subframes.ensures c.period.ensures)
