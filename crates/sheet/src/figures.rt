@@ -4,7 +4,7 @@ ghost use Rattle.sheet.specs.Figures.{figures_of, meaning_of};
 
 use crate::form::CodeName;
 use code::{Bare, Code};
-use mapping::{BlockMapping, Mapping};
+use mapping::{Interleaved, Mapping};
 use rs16::Rs16;
 use settings::Settings;
 
@@ -50,7 +50,7 @@ pub fn quote_for(code: CodeName, settings: &Settings) -> Quote
     Quote {
         frame: code.information() * settings.depth(),
         block: settings.block_length(),
-        fade: BlockMapping::new(*settings).fade(code.reach()).unwrap(),
+        fade: Interleaved::block(*settings).fade(code.reach()).unwrap(),
         resync: settings.resync_length(),
     }
 }
