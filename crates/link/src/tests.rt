@@ -1,7 +1,7 @@
 // The sender run: whole blocks drawn in pieces of awkward sizes, against the figures of compare/line.py.
 use crate::Sender;
 use code::Bare;
-use mapping::{BlockMapping, Mapping, Randomized, SteppedMapping};
+use mapping::{Interleaved, Mapping, Randomized};
 use settings::Settings;
 use std::process::Abort;
 use std::test::Fail;
@@ -124,7 +124,7 @@ fn drawn<M: Mapping + Drop>(
 #[test]
 fn a_block_of_two_rows(rt: HostRuntime) -> Result<(), Fail> {
     let settings = Settings::new(1, 2, 5, 1, 1)?;
-    let found = drawn(&rt, settings, BlockMapping::new(settings))?;
+    let found = drawn(&rt, settings, Interleaved::block(settings))?;
     assert_eq!(rt;
         found,
         Figures {
@@ -139,7 +139,7 @@ fn a_block_of_two_rows(rt: HostRuntime) -> Result<(), Fail> {
 #[test]
 fn a_randomized_block(rt: HostRuntime) -> Result<(), Fail> {
     let settings = Settings::new(2, 12, 17, 3, 1)?;
-    let found = drawn(&rt, settings, Randomized::over(BlockMapping::new(settings)))?;
+    let found = drawn(&rt, settings, Randomized::over(Interleaved::block(settings)))?;
     assert_eq!(rt;
         found,
         Figures {
@@ -154,7 +154,7 @@ fn a_randomized_block(rt: HostRuntime) -> Result<(), Fail> {
 #[test]
 fn a_randomized_stepped_block(rt: HostRuntime) -> Result<(), Fail> {
     let settings = Settings::new(3, 4, 9, 2, 1)?;
-    let stepped = SteppedMapping::new(settings, 7)?;
+    let stepped = Interleaved::stepped(settings, 7)?;
     let found = drawn(&rt, settings, Randomized::over(stepped))?;
     assert_eq!(rt;
         found,
@@ -170,7 +170,7 @@ fn a_randomized_stepped_block(rt: HostRuntime) -> Result<(), Fail> {
 #[test]
 fn a_stepped_block(rt: HostRuntime) -> Result<(), Fail> {
     let settings = Settings::new(5, 2, 255, 2, 1)?;
-    let stepped = SteppedMapping::new(settings, 200)?;
+    let stepped = Interleaved::stepped(settings, 200)?;
     let found = drawn(&rt, settings, stepped)?;
     assert_eq!(rt;
         found,
@@ -186,7 +186,7 @@ fn a_stepped_block(rt: HostRuntime) -> Result<(), Fail> {
 #[test]
 fn a_block_of_whole_rows(rt: HostRuntime) -> Result<(), Fail> {
     let settings = Settings::new(8, 3, 2040, 1, 1)?;
-    let found = drawn(&rt, settings, Randomized::over(BlockMapping::new(settings)))?;
+    let found = drawn(&rt, settings, Randomized::over(Interleaved::block(settings)))?;
     assert_eq!(rt;
         found,
         Figures {
@@ -202,7 +202,7 @@ fn a_block_of_whole_rows(rt: HostRuntime) -> Result<(), Fail> {
 #[test]
 fn zero_frames(rt: HostRuntime) -> Result<(), Fail> {
     let settings = Settings::new(1, 1, 5, 1, 1)?;
-    let mapping = Randomized::over(BlockMapping::new(settings));
+    let mapping = Randomized::over(Interleaved::block(settings));
     let mut sender = Sender::new(settings, Bare, mapping)?;
     let mut memory = [7; 255];
     assert!(rt; sender.put(&mut memory, &[0; 255]).is_ok());

@@ -3,7 +3,7 @@
 use super::{Generator, START, digest};
 use crate::{Kind, NextAnswer, Receiver, Report, Sender};
 use code::{Bare, Code};
-use mapping::{BlockMapping, Mapping, Randomized, SteppedMapping};
+use mapping::{Interleaved, Mapping, Randomized};
 use marker::Cause;
 use rs16::Rs16;
 use settings::Settings;
@@ -239,7 +239,7 @@ fn heard<C: Code + Copy, M: Mapping + Drop>(
 #[test]
 fn two_subframes_and_no_second_miss(rt: HostRuntime) -> Result<(), Fail> {
     let settings = Settings::new(1, 2, 5, 1, 1)?;
-    let block = BlockMapping::new(settings);
+    let block = Interleaved::block(settings);
     assert_eq!(rt;
         heard(&rt, settings, Bare, block, block)?,
         0xCEF3_54CF_B733_F6AD
@@ -250,7 +250,7 @@ fn two_subframes_and_no_second_miss(rt: HostRuntime) -> Result<(), Fail> {
 #[test]
 fn one_subframe(rt: HostRuntime) -> Result<(), Fail> {
     let settings = Settings::new(1, 2, 51, 2, 2)?;
-    let block = BlockMapping::new(settings);
+    let block = Interleaved::block(settings);
     assert_eq!(rt;
         heard(&rt, settings, Bare, block, block)?,
         0x8970_EB71_EBAA_EFF2
@@ -261,7 +261,7 @@ fn one_subframe(rt: HostRuntime) -> Result<(), Fail> {
 #[test]
 fn two_words_stepped_and_randomized(rt: HostRuntime) -> Result<(), Fail> {
     let settings = Settings::new(2, 4, 17, 2, 2)?;
-    let mapping = SteppedMapping::new(settings, 7)?;
+    let mapping = Interleaved::stepped(settings, 7)?;
     let found = heard(
         &rt,
         settings,
@@ -276,7 +276,7 @@ fn two_words_stepped_and_randomized(rt: HostRuntime) -> Result<(), Fail> {
 #[test]
 fn rs16_randomized(rt: HostRuntime) -> Result<(), Fail> {
     let settings = Settings::new(1, 3, 15, 1, 3)?;
-    let block = BlockMapping::new(settings);
+    let block = Interleaved::block(settings);
     let found = heard(
         &rt,
         settings,
@@ -291,7 +291,7 @@ fn rs16_randomized(rt: HostRuntime) -> Result<(), Fail> {
 #[test]
 fn rs16_two_words_stepped(rt: HostRuntime) -> Result<(), Fail> {
     let settings = Settings::new(2, 4, 6, 1, 2)?;
-    let mapping = SteppedMapping::new(settings, 3)?;
+    let mapping = Interleaved::stepped(settings, 3)?;
     assert_eq!(rt;
         heard(&rt, settings, Rs16, mapping, mapping)?,
         0xE939_01C7_C2A4_00F1

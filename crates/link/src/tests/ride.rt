@@ -3,7 +3,7 @@
 use super::Generator;
 use crate::{Receiver, Sender};
 use code::Code;
-use mapping::{BlockMapping, Mapping, Randomized, SteppedMapping};
+use mapping::{Interleaved, Mapping, Randomized};
 use rs16::Rs16;
 use settings::Settings;
 use std::ops::Range;
@@ -200,7 +200,7 @@ fn rides<M: Mapping + Drop>(
 #[test]
 fn rides_through_block_randomized(rt: HostRuntime) -> Result<(), Fail> {
     let settings = Settings::new(2, 3, 5, 1, 2)?;
-    let block = BlockMapping::new(settings);
+    let block = Interleaved::block(settings);
     for turn in 0..9 {
         rides(
             &rt,
@@ -216,6 +216,6 @@ fn rides_through_block_randomized(rt: HostRuntime) -> Result<(), Fail> {
 #[test]
 fn rides_through_stepped(rt: HostRuntime) -> Result<(), Fail> {
     let settings = Settings::new(2, 3, 6, 1, 2)?;
-    let mapping = SteppedMapping::new(settings, 7)?;
+    let mapping = Interleaved::stepped(settings, 7)?;
     rides(&rt, settings, mapping, mapping, 3)
 }
