@@ -14,6 +14,7 @@ pub enum ShapeFault {
 
 impl ShapeFault {
     // The refusal's number: 1 or 8.
+    // Kept: the C interface of `exports` answers by the refusals' numbers.
     pub fn number(&self) -> usize
         ensures { result ≡ shape_number self.now }
     {
@@ -35,6 +36,7 @@ pub enum MendFault {
 
 impl MendFault {
     // The refusal's number: 1, 8 or 9.
+    // Kept: the C interface of `exports` answers by the refusals' numbers.
     pub fn number(&self) -> usize
         ensures { result ≡ mend_number self.now }
     {

@@ -27,6 +27,8 @@ pub trait Code {
     fn reach(&self) -> usize
         ensures { result ≡ (meaning self.now).reach };
 
+    // Kept: row, depth and word stay apart in these calls: a type that holds them checked would ask callers for the checks first.
+
     // Makes a word of the row a codeword by the octets behind its information.
     // Refused, in this order: 1 the depth is not allowed; 8 the row has not 255 * depth octets, or the word is not below depth.
     fn encode(&self, row: &mut [u8], depth: usize, word: usize) -> Result<(), ShapeFault>

@@ -7,6 +7,8 @@ ghost use Rattle.exports.specs.Numbers.{EncodesByNumber, MendsByNumber};
 use code::Code;
 use rs16::Rs16;
 
+// Kept: these are a C interface, so numbers stand for answers and refusals.
+
 // Encodes a word of the row; 0, or the number of the refusal: 1 or 8.
 pub fn rs16_encode_word(row: &mut [u8], depth: usize, word: usize) -> usize
     ensures { EncodesByNumber depth word row.old result row.new }

@@ -183,17 +183,8 @@ module _ (test : ℕ → Bool) (p o w : List ℕ) where
         ];
       }
 
-  -- past the last octet the corrections are all there
-  pub finding_all : (j : ℕ) (cs : List Correction) → length w ≡ word_length → j ≡ word_length → length (chosen test word_length) ≤ 32 → Finding j cs
-      → Corrects w cs × (corrected cs w ≡ changed test p o w) × (length cs ≤ length (chosen test word_length))
-  finding_all j cs size end few h = (
-    record {
-      few = omega (arith, h.room);
-      inside = λ k d l. let low = h.before k d l in omega arith;
-      rising = h.rising;
-      other = h.other;
-    },
-    ext_get_or 0 (corrected cs w) (changed test p o w) (corrected_length cs w ∙ sym (changed_length test p o w))
-        (λ k l. h.done k (omega (arith, corrected_length cs w))),
-    omega (arith, h.room),
-  )
+  -- past the last octet the word is as it should be
+  pub finding_all : (j : ℕ) (cs : List Correction) → length w ≡ word_length → j ≡ word_length → Finding j cs → corrected cs w ≡ changed test p o w
+  finding_all j cs size end h =
+      ext_get_or 0 (corrected cs w) (changed test p o w) (corrected_length cs w ∙ sym (changed_length test p o w))
+      (λ k l. h.done k (omega (arith, corrected_length cs w)))

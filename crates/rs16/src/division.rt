@@ -9,12 +9,7 @@ use std::array;
 pub(crate) fn checks_of(information: &[u8]) -> [u8; 32]
     ensures { result ≡ checks information.now }
 {
-    let mut r = Row {
-        a: 0,
-        b: 0,
-        c: 0,
-        d: 0,
-    };
+    let mut r = Row::default();
     for octet in information {
         r = r.divided(*octet);
     }

@@ -5,7 +5,7 @@ ghost use Rattle.rs16.specs.Division.{divide_step};
 use crate::multiples::MULTIPLES;
 
 // Octets 0 to 7 in `a`, the first the least significant, 8 to 15 in `b`, and so on.
-#[derive(Clone, Copy)]
+#[derive(Clone, Copy, Default)]
 pub(crate) struct Row {
     pub a: u64,
     pub b: u64,

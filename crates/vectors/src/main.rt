@@ -2,8 +2,6 @@
 // at each depth those of 1,000 rows' syndromes, and of the rows encoded; and those of what mending altered words came to.
 #![tactic(auto)]
 
-ghost use Rattle.std.specs.Prelude.{◌≤◌};
-
 use encoding::Encoding;
 use mending::Mending;
 use std::io;
@@ -33,9 +31,7 @@ fn show_encoding(rt: &HostRuntime, depth: usize, row: &mut [u8]) -> io::Result<(
 }
 
 // Prints what mending came to at one depth.
-fn show_mending(rt: &HostRuntime, depth: usize, row: &mut [u8]) -> io::Result<()>
-    requires { depth ≤ 8 }
-{
+fn show_mending(rt: &HostRuntime, depth: usize, row: &mut [u8]) -> io::Result<()> {
     let Mending {
         answers,
         rows,

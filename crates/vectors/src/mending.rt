@@ -1,6 +1,4 @@
 // Words altered by the generator and mended: digests of the answers and of the rows, to be compared with another decoder's.
-ghost use Rattle.std.specs.Prelude.{◌<◌, ◌≤◌};
-
 use crate::ROWS;
 use crate::digest::Digest;
 use crate::encoding::encode_row;
@@ -30,31 +28,25 @@ impl From<u32> for Places {
 
 impl Places {
     // The place of the octet that is altered as number i, by the generator's number for it.
-    fn place(self, start: usize, i: usize, number: u32) -> usize
-        requires near_start { start < 255 }
-        requires few { i < 21 }
-        ensures { result < 255 }
-    {
+    fn place(self, start: u8, i: u8, number: u32) -> usize {
         match self {
             Places::Anywhere => (number >> 8) as usize % 255,
-            Places::Steps(step) => (start + i * usize::from(step)) % 255,
+            Places::Steps(step) => (usize::from(start) + usize::from(i) * usize::from(step)) % 255,
         }
     }
 }
 
 // Alters up to 20 octets of a word. It takes a number for how their places lie, one for how many (without its last eight digits,
 // modulo 21), one for the start (the same, modulo 255), and one for each octet, whose first eight digits are added to it.
-fn alter_word(row: &mut [u8], depth: usize, word: usize, generator: &mut Generator)
-    requires few { depth ≤ 8 }
-    requires among { word < depth }
-{
+fn alter_word(row: &mut [u8], depth: usize, word: usize, generator: &mut Generator) {
     let places = Places::from(generator.number());
-    let many = (generator.number() >> 8) as usize % 21;
-    let start = (generator.number() >> 8) as usize % 255;
+    let many = ((generator.number() >> 8) % 21) as u8;
+    let start = ((generator.number() >> 8) % 255) as u8;
     for i in 0..many {
         let number = generator.number();
         let place = places.place(start, i, number);
-        if let Some(octet) = row.get_mut(place * depth + word) {
+        // Kept: the sums wrap, since a bound on the depth would ask more of callers.
+        if let Some(octet) = row.get_mut(place.wrapping_mul(depth).wrapping_add(word)) {
             *octet ^= (number >> 24) as u8;
         }
     }
@@ -73,9 +65,7 @@ pub(crate) struct Mending {
 
 impl Mending {
     // Rows filled by the generator, encoded but for each eighth one, altered word by word, and mended.
-    pub(crate) fn of_rows(row: &mut [u8], depth: usize) -> Mending
-        requires { depth ≤ 8 }
-    {
+    pub(crate) fn of_rows(row: &mut [u8], depth: usize) -> Mending {
         let mut generator = Generator::from_seed(0x352E_F853);
         let mut mending = Mending {
             answers: Digest::new(),

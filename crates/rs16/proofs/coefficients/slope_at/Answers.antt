@@ -1,6 +1,6 @@
 use Rattle.std.proofs.Common.{◌≡◌, ◌∙◌, length, take, drop, length-drop, arith, rules}
 use Rattle.std.proofs.lemmas.List.{take_all}
-use Rattle.rs16.proofs.Folds.{slope_none, slope_more, slope_all}
+use Rattle.rs16.proofs.Folds.{slope_none, slope_more}
 use Rattle.rs16.proofs.coefficients.slope_at.Goals as goal
 
 pub loop-c-init : goal.loop-c-init
@@ -16,7 +16,3 @@ loop-c-preserved c =
     slope_more (drop 1 c.args.p.now) c.loop-c.c-iterator.iter.rest.now c.next.new.self.iter.rest.now c.args.x c.in-Some.c.now
     c.loop-c.value c.loop-c.sum c.product.result c.product-in-loop-c.result
     c.in-Some.ensures.steps c.product.ensures c.product-in-loop-c.ensures c.loop-c.invariant
-
-pub returns : goal.returns
-returns c =
-    slope_all (drop 1 c.args.p.now) c.loop-c.c-iterator.iter.rest.now c.args.x c.loop-c.value c.loop-c.sum c.in-None.ensures.steps.0 c.loop-c.invariant

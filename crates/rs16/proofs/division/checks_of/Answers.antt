@@ -1,12 +1,15 @@
-use Rattle.std.proofs.Common.{ℕ, ◌+◌, List, drop, sym, refl, ap, ◌∙◌, arith}
+use Rattle.std.proofs.Common.{◌≡◌, ℕ, ◌+◌, List, drop, sym, ap, ◌∙◌, arith}
 use Rattle.rs16.specs.Division.{remainder, checks}
-use Rattle.rs16.specs.Rows.{octets_of}
+use Rattle.octets.specs.Counting.{tabulate}
+use Rattle.rs16.specs.Rows.{octet_at, octets_of, wide}
 use Rattle.rs16.proofs.Steps.{remainder_more, remainder_all}
 use Rattle.rs16.proofs.division.checks_of.Goals as goal
 
 pub loop-octet-init : goal.loop-octet-init
 unfolding octets_of
-loop-octet-init c = refl
+loop-octet-init c =
+    let none : wide c.default-r.result ≡ 0 = omega (arith, c.default-r.ensures) in
+    ap (λ n. remainder (tabulate 32 (octet_at n)) c.args.information.now) none
 
 pub loop-octet-preserved : goal.loop-octet-preserved
 loop-octet-preserved c =

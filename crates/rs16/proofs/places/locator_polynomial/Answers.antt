@@ -28,8 +28,3 @@ loop-k-preserved c =
           subst (λ (z : List ℕ). (length z ≡ 17) × Alike z (from_roots (chosen (zero_at v) (k + 1)))) (sym w.p-is)
           (c.loop-k.invariant.0, product_same (zero_at v) k p (ne_eqb (get_or v k 0) 0 w.if-value-eq0.false) c.loop-k.invariant.1)
     ]
-
-pub returns : goal.returns
-returns c =
-    let end : c.loop-k.k ≡ 255 = omega arith in
-    subst (λ n. Alike c.loop-k.p (from_roots (chosen (zero_at c.args.values.now) n))) end c.loop-k.invariant.1

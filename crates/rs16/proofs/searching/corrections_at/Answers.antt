@@ -1,8 +1,7 @@
-use Rattle.std.proofs.Common.{◌≡◌, ℕ, ◌+◌, ◌-◌, ◌<◌, ◌≤◌, true, false, List, length, get_or, sym, refl, ap, ◌∙◌, subst, arith, rules}
+use Rattle.std.proofs.Common.{◌≡◌, ℕ, ◌+◌, ◌-◌, ◌<◌, true, false, List, length, get_or, sym, refl, ap, ◌∙◌, subst, arith, rules}
 use Rattle.std.proofs.lemmas.Bool.{eq-eqb, ne_eqb}
-use Rattle.octets.specs.Words.{word_length}
 use Rattle.rs16.specs.Field.{◌⊕◌}
-use Rattle.rs16.specs.Mending.{zero_at, chosen}
+use Rattle.rs16.specs.Mending.{zero_at}
 use Rattle.rs16.specs.declared.corrections.Correction.{Correction}
 use Rattle.rs16.proofs.Correcting.{Finding, finding_kept, finding_put, finding_all, kept_untested, kept_unchanged}
 use Rattle.rs16.proofs.searching.corrections_at.Goals as goal
@@ -37,11 +36,8 @@ loop-place-preserved c =
           (finding_kept (zero_at v) p o w size j cs low h (kept_untested (zero_at v) p o w size j cs low h gone))
     ]
 
-pub returns : goal.returns
-returns c =
+pub returns-clause-made : goal.returns-clause-made
+returns-clause-made c =
     let size : length c.args.word.now ≡ 255 = search rules in
-    let few : length (chosen (zero_at c.args.values.now) word_length) ≤ 16 = c.requires in
     let end : c.loop-place.place ≡ 255 = omega arith in
-    let all = finding_all (zero_at c.args.values.now) c.args.p.now c.args.o.now c.args.word.now c.loop-place.place c.loop-place.corrections.items
-    size end (omega arith) c.loop-place.invariant in
-    record { right = all.0; made = all.1; few = omega (arith, all.2) }
+    finding_all (zero_at c.args.values.now) c.args.p.now c.args.o.now c.args.word.now c.loop-place.place c.loop-place.corrections.items size end c.loop-place.invariant
