@@ -17,10 +17,7 @@ fn quote_fitting<C: Code, M: Mapping>(settings: &Settings, code: &C, mapping: &M
     requires { mapping_fits settings.now (M.Mapping.meaning mapping.now) ≡ true }
     ensures { Quoted settings.now (C.Code.meaning code.now) (M.Mapping.meaning mapping.now) result }
 {
-    match quote(settings, code, mapping) {
-        Ok(figures) => figures,
-        Err(_) => unreachable(),
-    }
+    quote(settings, code, mapping).unwrap()
 }
 
 // The quote over such a mapping, with the randomizer over it if that is wanted.
