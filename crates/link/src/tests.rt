@@ -1,7 +1,7 @@
 // The sender run: whole blocks drawn in pieces of awkward sizes, against the figures of compare/line.py.
 use crate::Sender;
 use code::Bare;
-use mapping::{BlockMapping, Mapping, Randomized, SteppedMapping};
+use mapping::{Interleaved, Mapping, Randomized};
 use settings::Settings;
 use std::process::Abort;
 use std::test::Fail;
@@ -153,7 +153,7 @@ fn a_block_of_two_rows(rt: HostRuntime) -> Result<(), Fail> {
     let Ok(settings) = Settings::new(1, 2, 5, 1, 1) else {
         return Err(Fail::new("settings refused"));
     };
-    let found = drawn(&rt, settings, BlockMapping::new(settings))?;
+    let found = drawn(&rt, settings, Interleaved::block(settings))?;
     assert_eq!(rt;
         found,
         Figures {
@@ -170,7 +170,11 @@ fn a_randomized_block(rt: HostRuntime) -> Result<(), Fail> {
     let Ok(settings) = Settings::new(2, 12, 17, 3, 1) else {
         return Err(Fail::new("settings refused"));
     };
-    let found = drawn(&rt, settings, Randomized::over(BlockMapping::new(settings)))?;
+    let found = drawn(
+        &rt,
+        settings,
+        Randomized::over(Interleaved::block(settings)),
+    )?;
     assert_eq!(rt;
         found,
         Figures {
@@ -187,7 +191,7 @@ fn a_randomized_stepped_block(rt: HostRuntime) -> Result<(), Fail> {
     let Ok(settings) = Settings::new(3, 4, 9, 2, 1) else {
         return Err(Fail::new("settings refused"));
     };
-    let Ok(stepped) = SteppedMapping::new(settings, 7) else {
+    let Ok(stepped) = Interleaved::stepped(settings, 7) else {
         return Err(Fail::new("step refused"));
     };
     let found = drawn(&rt, settings, Randomized::over(stepped))?;
@@ -207,7 +211,7 @@ fn a_stepped_block(rt: HostRuntime) -> Result<(), Fail> {
     let Ok(settings) = Settings::new(5, 2, 255, 2, 1) else {
         return Err(Fail::new("settings refused"));
     };
-    let Ok(stepped) = SteppedMapping::new(settings, 200) else {
+    let Ok(stepped) = Interleaved::stepped(settings, 200) else {
         return Err(Fail::new("step refused"));
     };
     let found = drawn(&rt, settings, stepped)?;
@@ -227,7 +231,11 @@ fn a_block_of_whole_rows(rt: HostRuntime) -> Result<(), Fail> {
     let Ok(settings) = Settings::new(8, 3, 2040, 1, 1) else {
         return Err(Fail::new("settings refused"));
     };
-    let found = drawn(&rt, settings, Randomized::over(BlockMapping::new(settings)))?;
+    let found = drawn(
+        &rt,
+        settings,
+        Randomized::over(Interleaved::block(settings)),
+    )?;
     assert_eq!(rt;
         found,
         Figures {
@@ -245,7 +253,7 @@ fn zero_frames(rt: HostRuntime) -> Result<(), Fail> {
     let Ok(settings) = Settings::new(1, 1, 5, 1, 1) else {
         return Err(Fail::new("settings refused"));
     };
-    let mapping = Randomized::over(BlockMapping::new(settings));
+    let mapping = Randomized::over(Interleaved::block(settings));
     let Ok(mut sender) = Sender::new(settings, Bare, mapping) else {
         return Err(Fail::new("not made"));
     };

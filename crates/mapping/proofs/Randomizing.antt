@@ -1,24 +1,14 @@
 -- Stretches under the randomizer, from those of the mapping below.
-use Rattle.std.proofs.Common.{◌≡◌, ℕ, ◌+◌, ◌-◌, ◌%◌, ◌<◌, ◌≤◌, List, length, get_or, take, drop, set, sym, refl, ap, ◌∙◌, ap₂, inl, inr, arith, length-set, get_or-set_other, get_or-set_same}
+use Rattle.std.proofs.Common.{◌≡◌, ℕ, ◌+◌, ◌-◌, ◌%◌, ◌<◌, ◌≤◌, List, [], ◌++◌, length, get_or, take, drop, drop-drop, length-append, sym, ap, ◌∙◌, ap₂, inl, inr, arith}
 use lib.Bits.{bit_xor, xor_assoc, xor_comm}
-use Rattle.std.proofs.lemmas.List.{get_or-take, get_or-drop, length-take}
-use Rattle.std.proofs.lemmas.Bool.{cases_lt, cases_eq}
-use Rattle.mapping.specs.Bulk.{stretch, LineWritten, LineStored}
+use Rattle.std.proofs.lemmas.List.{get_or-take, get_or-drop, length-take, length-take-le, length-drop, get_or_append_left, get_or-append_right}
+use Rattle.std.proofs.Math.Seq.{drop-append_seam}
+use Rattle.std.proofs.lemmas.Bool.{cases_lt}
+use Rattle.mapping.specs.Bulk.{stretch, LineStored}
 use Rattle.mapping.specs.Meaning.{MappingMeaning, block_size}
-use Rattle.mapping.specs.Randomizer.{sequence, randomized, RunAdded, SequenceAdded, RandomizedPart}
+use Rattle.mapping.specs.Randomizer.{sequence, randomized, SequenceAdded}
 use Rattle.mapping.specs.Digits.{sequence_mod}
 use Rattle.mapping.proofs.Stretching.{Filled, Stored}
-
--- the line of the mapping below with the sequence added is the line under the randomizer
-pub written_randomized : (m : MappingMeaning) (memory before mid after : List ℕ) (start taken : ℕ)
-    → LineWritten m memory start taken before mid → SequenceAdded start taken mid after → LineWritten (randomized m) memory start taken before after
-written_randomized m memory before mid after start taken below added = record {
-  taken_is = below.taken_is;
-  size = added.size ∙ below.size;
-  written = λ i l. added.added i l ∙ ap (λ a. bit_xor a (sequence (start + i))) (below.written i l)
-      ∙ xor_assoc (get_or memory (m.source (start + i)) 0) (m.mask (start + i)) (sequence (start + i));
-  kept = λ i l. added.kept i l ∙ below.kept i l;
-}
 
 -- what is stored at line octet i under the randomizer
 abbrev pub stored_octet : MappingMeaning → List ℕ → ℕ → ℕ → ℕ
@@ -54,77 +44,85 @@ stored_join m line part before mid after start done size room old new octet = re
   ];
 }
 
--- the next part of a line, randomized and stored below
-pub stored_part : (m : MappingMeaning) (line before mid after : List ℕ) (part : List ℕ × ℕ) (start done wanted stored room : ℕ)
-    → start < block_size m → wanted ≤ block_size m - start → done < wanted
-    → Stored m (stored_octet m line start) start before mid done
-    → RandomizedPart room (start + done) (take (wanted - done) (drop done line)) part
-    → LineStored m (take (part.1 - 0) part.0) (start + done) stored mid after
-    → Stored m (stored_octet m line start) start before after (done + stored) × (done + stored ≤ wanted)
-stored_part m line before mid after part start done wanted stored room below few more old made new =
-    let size = length-take (part.1 - 0) part.0 in
-    let rest = length-take (wanted - done) (drop done line) in
-    let short : stored ≤ part.1 = omega (arith, new.taken_is, size) in
-    let fits : done + stored ≤ wanted = omega (arith, made.size, rest, short) in (
-      stored_join m line (take (part.1 - 0) part.0) before mid after start done stored (omega arith) old new
-          (λ i l. get_or-take (part.1 - 0) part.0 i 0 (omega arith) ∙ made.octet i (omega arith)
-          ∙ ap (λ x. bit_xor x (sequence (start + done + i))) (get_or-take (wanted - done) (drop done line) i 0 (omega arith) ∙ get_or-drop done line i 0)),
-      fits,
-    )
+-- `done` octets of the line are stored of the `wanted` ones, and the rest is still to come
+pub record Begun (m : MappingMeaning) (line : List ℕ) (start wanted : ℕ) (before after rest : List ℕ) (done : ℕ) : Type 0 where
+  pub few : done ≤ wanted
+  pub rest_is : rest ≡ drop done (take wanted line)
+  pub stored : Stored m (stored_octet m line start) start before after done
 
--- nothing stored first leaves the memory as it was
-pub stored_from : (m : MappingMeaning) (f : ℕ → ℕ) (none before mid after : List ℕ) (start zero-taken n : ℕ) → zero-taken ≡ 0
-    → LineStored m none start zero-taken before mid → Stored m f start mid after n → Stored m f start before after n
-stored_from m f none before mid after start zero-taken n is_zero first done = record {
-  size = done.size ∙ first.size;
-  stored = done.stored;
-  kept = λ p l out. done.kept p l out ∙ first.kept p l (elim (cases_lt p start) [ inl low ↦ inl low | inr high ↦ inr (omega arith) ]);
-}
-
--- a stretch stored below octet for octet is stored under the randomizer
-pub stored_randomized : (m : MappingMeaning) (line before after : List ℕ) (start taken : ℕ) → taken ≡ stretch m start (length line)
-    → Stored m (stored_octet m line start) start before after taken → LineStored (randomized m) line start taken before after
-stored_randomized m line before after start taken taken_is done = record {
-  taken_is = taken_is;
-  size = done.size;
-  stored = done.stored;
-  kept = done.kept;
-}
-
--- no octet has the sequence added yet
-pub run_none : (at turn : ℕ) (xs : List ℕ) → RunAdded at at turn xs xs
-run_none at turn xs = record { size = refl; added = λ i low high. absurd (omega arith); kept = λ i out. refl }
-
--- one octet more
-pub run_more : (at end turn : ℕ) (before after : List ℕ) (v : ℕ) → RunAdded at end turn before after → at ≤ end → end < length before
-    → v ≡ bit_xor (get_or before end 0) (sequence (turn + (end - at))) → RunAdded at (end + 1) turn before (set after end v)
-run_more at end turn before after v done some room is =
-    let room' : end < length after = omega (arith, done.size) in
+-- the next chunk of the line, randomized and stored below
+pub next_chunk : (m : MappingMeaning) (line before mid after chunk part rest : List ℕ) (start wanted done stored : ℕ)
+    → start < block_size m → wanted ≤ block_size m - start → wanted ≤ length line
+    → Begun m line start wanted before mid (chunk ++ rest) done → SequenceAdded (start + done) chunk part → LineStored m part (start + done) stored mid after
+    → Begun m line start wanted before after rest (done + stored)
+next_chunk m line before mid after chunk part rest start wanted done stored below fits long old added new =
+    let left = length-take wanted line in
+    let over = length-drop done (take wanted line) in
+    let both = length-append chunk rest in
+    let same = ap length old.rest_is in
+    let few = old.few in
+    let within : done + length chunk ≤ wanted = omega (arith, left, over, both, same) in
+    let all : stored ≡ length chunk = omega (arith, new.taken_is, added.size) in
     record {
-      size = length-set after end v ∙ done.size;
-      added = λ i low high. elim (cases_eq i end) [
-        | inl same ↦ rw same (get_or-set_same after end v 0 room' ∙ is)
-        | inr other ↦ get_or-set_other after end i v 0 other ∙ done.added i low (omega arith)
-      ];
-      kept = λ i out. elim out [
-        | inl first ↦ get_or-set_other after end i v 0 (λ same. omega arith) ∙ done.kept i (inl first)
-        | inr last ↦ get_or-set_other after end i v 0 (λ same. omega arith) ∙ done.kept i (inr (omega arith))
-      ];
+      few = omega arith;
+      rest_is = sym (drop-append_seam chunk rest) ∙ ap (drop (length chunk)) old.rest_is ∙ drop-drop (length chunk) done (take wanted line)
+          ∙ ap (λ n. drop n (take wanted line)) (omega arith);
+      stored = stored_join m line part before mid after start done stored (omega arith) old.stored new
+          (λ i l. added.added i (omega arith) ∙ ap (λ x. bit_xor x (sequence (start + done + i)))
+          (sym (get_or_append_left chunk rest 0 i (omega arith)) ∙ ap (λ xs. get_or xs i 0) old.rest_is
+          ∙ get_or-drop done (take wanted line) i 0 ∙ get_or-take wanted line (done + i) 0 (omega arith)));
+    }
+
+-- with nothing left to come, and nothing stored before, the stretch is stored under the randomizer
+pub begun_all : (m : MappingMeaning) (line before mid after rest : List ℕ) (start wanted none done : ℕ) → LineStored m [] start none before mid
+    → wanted ≡ stretch m start (length line) → length rest ≡ 0 → Begun m line start wanted mid after rest done
+    → LineStored (randomized m) line start done before after
+begun_all m line before mid after rest start wanted none done first wanted_is over begun =
+    let left = length-take wanted line in
+    let behind = length-drop done (take wanted line) in
+    let same = ap length begun.rest_is in
+    let few = begun.few in
+    let is_none : none ≡ 0 = omega (arith, first.taken_is) in
+    record {
+      taken_is = omega (arith, left, behind, same);
+      size = begun.stored.size ∙ first.size;
+      stored = begun.stored.stored;
+      kept = λ p l out. begun.stored.kept p l out ∙ first.kept p l (elim (cases_lt p start) [ inl low ↦ inl low | inr high ↦ inr (omega arith) ]);
     }
 
 -- the octets with the sequence added, and a run behind them
-pub added_join : (start at end turn : ℕ) (before mid after : List ℕ) → turn ≡ (start + at) % 255 → at ≤ end
-    → Filled (λ j. bit_xor (get_or before j 0) (sequence (start + j))) before mid at → RunAdded at end turn mid after
-    → Filled (λ j. bit_xor (get_or before j 0) (sequence (start + j))) before after end
-added_join start at end turn before mid after turn_is some old run =
-    let round : (i : ℕ) → at ≤ i → sequence (turn + (i - at)) ≡ sequence (start + i) = λ i low.
-    let e : (turn + (i - at)) % 255 ≡ (start + i) % 255 = omega (arith, turn_is) in
-    sequence_mod (turn + (i - at)) ∙ ap sequence e ∙ sym (sequence_mod (start + i)) in
+pub added_join : (start at turn n : ℕ) (before mid part : List ℕ) → turn ≡ (start + at) % 255 → at + n ≤ length mid
+    → Filled (λ j. bit_xor (get_or before j 0) (sequence (start + j))) before mid at → SequenceAdded turn (take n (drop at mid)) part
+    → Filled (λ j. bit_xor (get_or before j 0) (sequence (start + j))) before (take at mid ++ (part ++ drop n (drop at mid))) (at + n)
+added_join start at turn n before mid part turn_is room old run =
+    let first : length (take at mid) ≡ at = length-take-le at mid (omega arith) in
+    let behind = length-drop at mid in
+    let here : length (take n (drop at mid)) ≡ n = length-take-le n (drop at mid) (omega (arith, behind)) in
+    let size : length part ≡ n = run.size ∙ here in
+    let last = length-drop n (drop at mid) in
+    let tail = part ++ drop n (drop at mid) in
+    let tail_size = length-append part (drop n (drop at mid)) in
+    let round : (i : ℕ) → sequence (turn + i) ≡ sequence (start + (at + i)) = λ i.
+    let e : (turn + i) % 255 ≡ (start + (at + i)) % 255 = omega (arith, turn_is) in
+    sequence_mod (turn + i) ∙ ap sequence e ∙ sym (sequence_mod (start + (at + i))) in
     record {
-      size = run.size ∙ old.size;
-      written = λ i l. elim (cases_lt i at) [
-        | inl first ↦ run.kept i (inl first) ∙ old.written i first
-        | inr last ↦ run.added i last l ∙ ap₂ (λ a b. bit_xor a b) (old.kept i last) (round i last)
+      size = length-append (take at mid) tail ∙ omega (arith, first, behind, size, last, tail_size, old.size);
+      written = λ j l. elim (cases_lt j at) [
+        | inl low ↦ get_or_append_left (take at mid) tail 0 j (omega arith) ∙ get_or-take at mid j 0 low ∙ old.written j low
+        | inr high ↦
+            let i = j - at in
+            let is : at + i ≡ j = omega arith in
+            get_or-append_right (take at mid) tail at j 0 first high
+            ∙ get_or_append_left part (drop n (drop at mid)) 0 i (omega arith)
+            ∙ run.added i (omega arith)
+            ∙ ap₂ (λ a b. bit_xor a b)
+            (get_or-take n (drop at mid) i 0 (omega arith) ∙ get_or-drop at mid i 0 ∙ ap (λ k. get_or mid k 0) is ∙ old.kept j high)
+            (round i ∙ ap (λ k. sequence (start + k)) is)
       ];
-      kept = λ i l. run.kept i (inr l) ∙ old.kept i (omega arith);
+      kept = λ j l.
+          let is : at + (n + (j - at - n)) ≡ j = omega arith in
+          get_or-append_right (take at mid) tail at j 0 first (omega arith)
+          ∙ get_or-append_right part (drop n (drop at mid)) n (j - at) 0 size (omega arith)
+          ∙ get_or-drop n (drop at mid) (j - at - n) 0 ∙ get_or-drop at mid (n + (j - at - n)) 0
+          ∙ ap (λ k. get_or mid k 0) is ∙ old.kept j (omega arith);
     }

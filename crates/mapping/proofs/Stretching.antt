@@ -1,17 +1,14 @@
 -- A stretch of the line written or stored octet by octet.
-use Rattle.std.proofs.Common.{◌≡◌, ℕ, ◌+◌, ◌*◌, ◌<◌, ◌≤◌, true, eqb, ltb, ◌≢◌, ◌⊎◌, List, length, get_or, set, Some, None, Ok, Err, Result, sym, refl, ap, ◌∙◌, ap₂, inl, inr, arith, length-set, get_or-set_other, get_or-set_same}
+use Rattle.std.proofs.Common.{◌≡◌, ℕ, ◌+◌, ◌-◌, ◌*◌, ◌++◌, drop, ◌<◌, ◌≤◌, true, eqb, ltb, ◌≢◌, ◌⊎◌, List, length, get_or, set, Some, None, Ok, Err, Result, sym, ap, ◌∙◌, ap₂, inl, inr, arith, length-set, get_or-set_other, get_or-set_same}
 use lib.Bits.{bit_xor}
+use Rattle.std.proofs.Common.{length-append, length-drop}
+use Rattle.std.proofs.lemmas.List.{get_or_append_left, get_or-append_right, get_or-drop}
 use Rattle.std.proofs.lemmas.Bool.{cases_Bool, cases_eq, ltb-true, lt-ltb, eq-eqb, eqb-true}
 use Rattle.mapping.specs.Answers.{place_answer}
-use Rattle.settings.specs.declared.Settings.{Settings}
-use Rattle.settings.specs.Lengths.{block_length}
-use Rattle.mapping.specs.Bulk.{stretch_refusal, stretch, line_octet, LineWritten, LineStored, WriteAnswer, StoreAnswer}
-use Rattle.mapping.specs.Interleaver.{block_source, stepped_source, block_of, stepped_of}
+use Rattle.mapping.specs.Bulk.{stretch_refusal, stretch, line_octet, LineWritten, LineStored}
 use Rattle.mapping.specs.Meaning.{MappingMeaning, MappingLaws, block_size}
 use Rattle.mapping.specs.declared.fault.MappingFault.{MappingFault}
 use Rattle.mapping.specs.declared.fault.MappingFault.TheVariants.{Place, Memory}
-use Rattle.mapping.specs.Bounds.{cut_of}
-use Rattle.mapping.specs.Laws.{block_source_is}
 
 -- what a value told for a place says
 pub told : (m : MappingMeaning) (f : ℕ → ℕ) (p v : ℕ) (r : Result ℕ MappingFault)
@@ -47,14 +44,16 @@ not_refused m octets start e = elim (cases_Bool (ltb start (block_size m))) [
       let z : ◌≡◌ {A = ℕ} 0 1 = cc in absurd (omega arith)
 ]
 
+-- a place of a stretch lies below the block's end
+pub within : (m : MappingMeaning) (octets start room taken i : ℕ) → (stretch_refusal m octets start ≡ None) × (taken ≡ stretch m start room) → i < taken
+    → start + i < block_size m
+within m octets start room taken i answer l = omega (arith, (not_refused m octets start answer.0).0, answer.1)
+
 -- the first n places are written
 pub record Filled (f : ℕ → ℕ) (before after : List ℕ) (n : ℕ) : Type 0 where
   pub size : length after ≡ length before
   pub written : (i : ℕ) → i < n → get_or after i 0 ≡ f i
   pub kept : (i : ℕ) → n ≤ i → get_or after i 0 ≡ get_or before i 0
-
-pub filled_none : (f : ℕ → ℕ) (xs : List ℕ) → Filled f xs xs 0
-filled_none f xs = record { size = refl; written = λ i l. absurd (omega arith); kept = λ i l. refl }
 
 -- one place more
 pub filled_more : (f : ℕ → ℕ) (before after : List ℕ) (n v : ℕ) → Filled f before after n → n < length before → v ≡ f n
@@ -70,28 +69,28 @@ filled_more f before after n v done room is =
       kept = λ i l. get_or-set_other after n i v 0 (λ same. omega arith) ∙ done.kept i (omega arith);
     }
 
--- the whole of a stretch is written
-pub written_all : (m : MappingMeaning) (memory before after : List ℕ) (start taken n : ℕ) → start < block_size m → length memory ≡ block_size m
-    → taken ≡ stretch m start (length before) → n ≡ taken → Filled (λ i. line_octet m memory (start + i)) before after n
-    → (stretch_refusal m (length memory) start ≡ None) × LineWritten m memory start taken before after
-written_all m memory before after start taken n below full taken_is all done = (
-  none_refused m (length memory) start below full,
-  record {
-    taken_is = taken_is;
-    size = done.size;
-    written = λ i l. done.written i (omega arith);
-    kept = λ i l. done.kept i (omega arith);
-  },
-)
+-- the whole of a stretch is written to the front of the output
+pub written_front : (m : MappingMeaning) (memory before front : List ℕ) (start taken : ℕ) → start < block_size m → length memory ≡ block_size m
+    → taken ≡ stretch m start (length before) → length front ≡ taken → ((i : ℕ) → i < taken → get_or front i 0 ≡ line_octet m memory (start + i))
+    → (stretch_refusal m (length memory) start ≡ None) × LineWritten m memory start taken before (front ++ drop taken before)
+written_front m memory before front start taken below full taken_is size each =
+    let rest = length-drop taken before in (
+      none_refused m (length memory) start below full,
+      record {
+        taken_is = taken_is;
+        size = length-append front (drop taken before) ∙ omega (arith, rest);
+        written = λ i l. get_or_append_left front (drop taken before) 0 i (omega arith) ∙ each i l;
+        kept = λ i l.
+            get_or-append_right front (drop taken before) taken i 0 size l ∙ get_or-drop taken before (i - taken) 0
+            ∙ ap (λ k. get_or before k 0) (omega arith);
+      },
+    )
 
 -- the sources of the first n places of a stretch are written
 pub record Stored (m : MappingMeaning) (f : ℕ → ℕ) (start : ℕ) (before after : List ℕ) (n : ℕ) : Type 0 where
   pub size : length after ≡ length before
   pub stored : (i : ℕ) → i < n → get_or after (m.source (start + i)) 0 ≡ f i
   pub kept : (p : ℕ) → p < block_size m → (p < start) ⊎ (start + n ≤ p) → get_or after (m.source p) 0 ≡ get_or before (m.source p) 0
-
-pub stored_none : (m : MappingMeaning) (f : ℕ → ℕ) (start : ℕ) (xs : List ℕ) → Stored m f start xs xs 0
-stored_none m f start xs = record { size = refl; stored = λ i l. absurd (omega arith); kept = λ p l o. refl }
 
 -- one place more
 pub stored_more : (m : MappingMeaning) → MappingLaws m → (f : ℕ → ℕ) (start : ℕ) (before after : List ℕ) (n q v : ℕ)
@@ -127,35 +126,3 @@ stored_all m line before after start taken n below full taken_is all done = (
     kept = λ p l out. done.kept p l (elim out [ inl first ↦ inl first | inr last ↦ inr (omega arith) ]);
   },
 )
-
--- the stretches of the mapping with step 0 are those of the block mapping
-pub block_written : (s : Settings) (memory before after : List ℕ) (start : ℕ) (r : Result ℕ MappingFault)
-    → WriteAnswer (stepped_of s 0) memory start before after r → WriteAnswer (block_of s) memory start before after r
-block_written s memory before after start (Ok taken) (free, w) =
-    let begun = not_refused (stepped_of s 0) (length memory) start free in (
-      free,
-      record {
-        taken_is = w.taken_is;
-        size = w.size;
-        written = λ i l. w.written i l
-            ∙ ap (λ q. bit_xor (get_or memory q 0) 0) (sym (block_source_is s.depth s.rows s.symbol (cut_of s) (start + i) (omega (arith, w.taken_is))));
-        kept = w.kept;
-      },
-    )
-block_written s memory before after start (Err e) w = w
-
-pub block_stored : (s : Settings) (line before after : List ℕ) (start : ℕ) (r : Result ℕ MappingFault)
-    → StoreAnswer (stepped_of s 0) line start before after r → StoreAnswer (block_of s) line start before after r
-block_stored s line before after start (Ok taken) (free, w) =
-    let begun = not_refused (stepped_of s 0) (length before) start free in
-    let same : (p : ℕ) → p < block_length s → block_source s.depth s.rows s.symbol p ≡ stepped_source s.depth s.rows s.symbol 0 p =
-    block_source_is s.depth s.rows s.symbol (cut_of s) in (
-      free,
-      record {
-        taken_is = w.taken_is;
-        size = w.size;
-        stored = λ i l. ap (λ q. get_or after q 0) (same (start + i) (omega (arith, w.taken_is))) ∙ w.stored i l;
-        kept = λ p l out. rw (same p l) (w.kept p l out);
-      },
-    )
-block_stored s line before after start (Err e) w = w

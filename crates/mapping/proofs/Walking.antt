@@ -5,9 +5,11 @@ use Rattle.std.proofs.lemmas.Bool.{cases_lt}
 use Rattle.settings.proofs.Ranges.{ranges, divisor_le}
 use Rattle.settings.specs.declared.Settings.{Settings}
 use Rattle.settings.specs.Lengths.{row_length, block_length}
-use Rattle.mapping.specs.Interleaver.{columns, stepped_source}
+use Rattle.mapping.specs.Interleaver.{columns, stepped_source, interleaved_source, step_of}
 use Rattle.mapping.specs.Walk.{At}
+use Rattle.mapping.specs.declared.interleaver.Interleaver.{Interleaver}
 use Rattle.mapping.specs.declared.walk.Walk.{Walk}
+use Rattle.mapping.specs.Laws.{interleaved_source_is}
 use Rattle.mapping.specs.Bounds.{cut_of}
 use Rattle.mapping.specs.InterleaverLemmas.{columns_fill, columns_pos}
 
@@ -186,6 +188,7 @@ pub spot_of : (s : Settings) (step p : ℕ) (w : Walk) → At s step p w → Spo
 spot_of s step p w at = record { octet_is = at.octet_is; base_is = at.base_is; first_is = at.first_is; offset_is = at.offset_is }
 
 -- a walk stands where the line place comes from
-pub place_is : (s : Settings) (step p : ℕ) (w : Walk) → At s step p w → w.base + w.offset + w.octet ≡ stepped_source s.depth s.rows s.symbol step p
+pub place_is : (s : Settings) (i : Interleaver) (p : ℕ) (w : Walk) → p < block_length s → At s (step_of i) p w
+    → w.base + w.offset + w.octet ≡ interleaved_source s i p
 unfolding stepped_source
-place_is s step p w at = ap₂ (λ a b. a + b) (ap₂ (λ a b. a + b) at.base_is at.offset_is) at.octet_is
+place_is s i p w h at = ap₂ (λ a b. a + b) (ap₂ (λ a b. a + b) at.base_is at.offset_is) at.octet_is ∙ sym (interleaved_source_is s i p h)

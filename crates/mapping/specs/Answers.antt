@@ -1,12 +1,9 @@
 -- What the calls of a mapping answer.
-use Rattle.std.specs.Prelude.{◌≡◌, ℕ, true, false, cond, Ok, Err, Result, nat_le, nat_lt}
-use Rattle.settings.specs.declared.Settings.{Settings}
+use Rattle.std.specs.Prelude.{ℕ, cond, Ok, Err, Result, nat_le, nat_lt}
 use Rattle.octets.specs.Words.{max_reach}
 use Rattle.mapping.specs.Meaning.{MappingMeaning, block_size}
-use Rattle.mapping.specs.Refusal.{step_is_allowed}
 use Rattle.mapping.specs.declared.fault.MappingFault.{MappingFault}
-use Rattle.mapping.specs.declared.fault.MappingFault.TheVariants.{Step, Place, Reach}
-use Rattle.mapping.specs.declared.stepped.SteppedMapping.{SteppedMapping}
+use Rattle.mapping.specs.declared.fault.MappingFault.TheVariants.{Place, Reach}
 
 -- a value told for the places below the block's end
 abbrev pub place_answer : MappingMeaning → (ℕ → ℕ) → ℕ → Result ℕ MappingFault
@@ -23,12 +20,3 @@ mask_answer m p = place_answer m m.mask p
 -- the fade for a reach, which is not above the largest
 abbrev pub fade_answer : MappingMeaning → ℕ → Result ℕ MappingFault
 fade_answer m t = cond (nat_le t max_reach) (Ok (m.fade t)) (Err Reach)
-
--- The answer of a call that makes a stepped mapping first: a step not allowed is refused before anything else.
-abbrev pub with_step : ℕ → Result ℕ MappingFault → Result ℕ MappingFault
-with_step step answer = cond (step_is_allowed step) answer (Err Step)
-
--- a stepped mapping of these settings and this step, if the step is allowed
-abbrev pub SteppedMade : Settings → ℕ → Result SteppedMapping MappingFault → Type 0
-SteppedMade settings step (Ok m) = (step_is_allowed step ≡ true) × (m.settings ≡ settings) × (m.step ≡ step)
-SteppedMade settings step (Err e) = (step_is_allowed step ≡ false) × (e ≡ Step)

@@ -6,9 +6,11 @@ use Rattle.std.proofs.lemmas.Bool.Decides.{nat_tests}
 use Rattle.settings.proofs.Ranges.{ranges, block_length_high}
 use Rattle.settings.specs.declared.Settings.{Settings}
 use Rattle.settings.specs.Lengths.{block_length}
-use Rattle.mapping.specs.Interleaver.{columns, symbol_place}
+use Rattle.mapping.specs.Interleaver.{columns, symbol_place, step_of}
+use Rattle.mapping.specs.declared.interleaver.Interleaver.{Interleaver}
+use Rattle.mapping.specs.declared.interleaver.Interleaver.TheVariants.{Block, Stepped}
 use Rattle.octets.specs.Words.{max_reach}
-use Rattle.mapping.specs.Refusal.{step_is_allowed}
+use Rattle.mapping.specs.Refusal.{interleaver_is_allowed, step_is_allowed}
 use Rattle.mapping.specs.InterleaverLemmas.{Cut}
 
 -- the symbols of a settings record fill its rows
@@ -42,6 +44,10 @@ fade_fits s t h =
 
 pub step_high : (step : ℕ) → step_is_allowed step ≡ true → step ≤ 255
 step_high step h = grind (arith, nat_tests)
+
+pub step_of_high : (i : Interleaver) → interleaver_is_allowed i ≡ true → step_of i ≤ 255
+step_of_high Block h = omega arith
+step_of_high (Stepped step) h = step_high step h
 
 -- a stepped column, before it is taken round the row's end
 pub stepped_column_fits : (s : Settings) (step p : ℕ) → step ≤ 255 → p < block_length s

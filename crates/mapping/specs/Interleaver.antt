@@ -1,8 +1,10 @@
 -- The block and the stepped mapping: symbols of a few octets go to the line by turns, one from each row.
-use Rattle.std.specs.Prelude.{ℕ, ◌+◌, ◌-◌, ◌*◌, ◌/◌, ◌%◌, min}
+use Rattle.std.specs.Prelude.{◌≡◌, ℕ, ◌+◌, ◌-◌, ◌*◌, ◌/◌, ◌%◌, min, refl}
 use Rattle.octets.specs.Words.{word_length}
 use Rattle.settings.specs.declared.Settings.{Settings}
 use Rattle.mapping.specs.Meaning.{MappingMeaning}
+use Rattle.mapping.specs.declared.interleaver.Interleaver.{Interleaver}
+use Rattle.mapping.specs.declared.interleaver.Interleaver.TheVariants.{Block, Stepped}
 
 -- the symbols of a row
 abbrev pub columns : ℕ → ℕ → ℕ
@@ -68,3 +70,23 @@ block_of s = block s.depth s.rows s.symbol
 -- the stepped mapping for a settings record and a step
 abbrev pub stepped_of : Settings → ℕ → MappingMeaning
 stepped_of s step = stepped s.depth s.rows s.symbol step
+
+-- an interleaver's sources
+abbrev pub interleaved_source : Settings → Interleaver → ℕ → ℕ
+interleaved_source s Block = block_source s.depth s.rows s.symbol
+interleaved_source s (Stepped step) = stepped_source s.depth s.rows s.symbol step
+
+-- An interleaver's mapping. Interleavers differ in their sources alone.
+abbrev pub interleaved : Settings → Interleaver → MappingMeaning
+interleaved s interleaver = record (block_of s) { source = interleaved_source s interleaver }
+
+pub interleaved_block : (s : Settings) → interleaved s Block ≡ block_of s
+interleaved_block s = refl
+
+pub interleaved_stepped : (s : Settings) (step : ℕ) → interleaved s (Stepped step) ≡ stepped_of s step
+interleaved_stepped s step = refl
+
+-- how many columns further on each row begins than the row before
+abbrev pub step_of : Interleaver → ℕ
+step_of Block = 0
+step_of (Stepped step) = step

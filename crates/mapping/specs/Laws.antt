@@ -1,9 +1,14 @@
 -- The laws of a mapping hold of any other that has the same sources below the block's end, and octets for masks.
-use Rattle.std.specs.Prelude.{◌≡◌, ℕ, ◌+◌, ◌*◌, ◌/◌, ◌%◌, ◌<◌, ◌≤◌}
+use Rattle.std.specs.Prelude.{◌≡◌, ℕ, ◌+◌, ◌*◌, ◌/◌, ◌%◌, ◌<◌, ◌≤◌, refl}
 use Rattle.std.proofs.Common.{ap, sym, ◌∙◌, mod-eq_of_lt, arith, lit<}
 use Rattle.octets.proofs.Counting.{count_alike}
 use Rattle.mapping.specs.Meaning.{MappingMeaning, MappingLaws, Holding, of_row_word, sources_of, block_size}
-use Rattle.mapping.specs.Interleaver.{block_source, stepped_source, block, stepped}
+use Rattle.settings.specs.declared.Settings.{Settings}
+use Rattle.settings.specs.Lengths.{block_length}
+use Rattle.mapping.specs.Interleaver.{block_source, stepped_source, block, stepped, interleaved, interleaved_source, step_of}
+use Rattle.mapping.specs.declared.interleaver.Interleaver.{Interleaver}
+use Rattle.mapping.specs.declared.interleaver.Interleaver.TheVariants.{Block, Stepped}
+use Rattle.mapping.specs.Bounds.{cut_of}
 use Rattle.mapping.specs.InterleaverLemmas.{Cut, round_lt, stepped_laws}
 
 -- the mapping with other sources and masks
@@ -50,3 +55,13 @@ block_source_is I N k cut p h =
 pub block_laws : (I N k : ℕ) → Cut I N k → MappingLaws (block I N k)
 block_laws I N k cut =
     laws_alike (stepped I N k 0) (block_source I N k) (λ _. 0) (block_source_is I N k cut) (λ p h. lit< tt) (stepped_laws I N k 0 cut)
+
+-- every interleaver's sources are those of its step
+pub interleaved_source_is : (s : Settings) (i : Interleaver) (p : ℕ) → p < block_length s
+    → interleaved_source s i p ≡ stepped_source s.depth s.rows s.symbol (step_of i) p
+interleaved_source_is s Block p h = block_source_is s.depth s.rows s.symbol (cut_of s) p h
+interleaved_source_is s (Stepped step) p h = refl
+
+pub interleaved_laws : (s : Settings) (i : Interleaver) → MappingLaws (interleaved s i)
+interleaved_laws s Block = block_laws s.depth s.rows s.symbol (cut_of s)
+interleaved_laws s (Stepped step) = stepped_laws s.depth s.rows s.symbol step (cut_of s)

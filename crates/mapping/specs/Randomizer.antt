@@ -1,5 +1,5 @@
 -- The randomizer: an octet sequence, restarted at each block, that is added to the mask.
-use Rattle.std.specs.Prelude.{◌≡◌, ℕ, zero, suc, ◌+◌, ◌-◌, ◌*◌, ◌%◌, ◌<◌, ◌≤◌, min, ◌⊎◌, List, length, bit_xor, slice_index}
+use Rattle.std.specs.Prelude.{◌≡◌, ℕ, zero, suc, ◌+◌, ◌*◌, ◌%◌, ◌<◌, List, length, bit_xor, slice_index}
 use Rattle.mapping.specs.Meaning.{MappingMeaning}
 
 -- Digits 0 to 7 are 1, and digit m + 8 is the sum modulo 2 of the digits m + 7, m + 5, m + 3 and m.
@@ -31,20 +31,7 @@ randomized m = record {
   fade = m.fade;
 }
 
--- The sequence from octet `turn` on is added to the octets from place `at` to `end`, and the others are kept.
-pub record RunAdded (at end turn : ℕ) (before after : List ℕ) : Type 0 where
+-- The sequence from octet `start` on is added to all octets.
+pub record SequenceAdded (start : ℕ) (before after : List ℕ) : Type 0 where
   pub size : length after ≡ length before
-  pub added : (i : ℕ) → at ≤ i → i < end → slice_index after i ≡ bit_xor (slice_index before i) (sequence (turn + (i - at)))
-  pub kept : (i : ℕ) → (i < at) ⊎ (end ≤ i) → slice_index after i ≡ slice_index before i
-
--- The sequence from octet `start` on is added to the first `count` octets, and the rest is kept.
-pub record SequenceAdded (start count : ℕ) (before after : List ℕ) : Type 0 where
-  pub size : length after ≡ length before
-  pub added : (i : ℕ) → i < count → slice_index after i ≡ bit_xor (slice_index before i) (sequence (start + i))
-  pub kept : (i : ℕ) → count ≤ i → slice_index after i ≡ slice_index before i
-
--- A part of the line, of as many octets as there is room for, with the sequence from octet `start` on added.
-pub record RandomizedPart (room start : ℕ) (line : List ℕ) (part : List ℕ × ℕ) : Type 0 where
-  pub size : part.1 ≡ min (length line) room
-  pub room_is : length part.0 ≡ room
-  pub octet : (i : ℕ) → i < part.1 → slice_index part.0 i ≡ bit_xor (slice_index line i) (sequence (start + i))
+  pub added : (i : ℕ) → i < length before → slice_index after i ≡ bit_xor (slice_index before i) (sequence (start + i))

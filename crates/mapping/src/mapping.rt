@@ -10,10 +10,10 @@ use crate::MappingFault;
 fn fills_block(octets: usize, depth: usize, rows: usize) -> bool
     ensures { result ≡ (octets == 255 * depth * rows) }
 {
-    match depth.checked_mul(rows) {
-        Some(words) => octets % 255 == 0 && octets / 255 == words,
-        None => false,
-    }
+    depth
+        .checked_mul(rows)
+        .and_then(|words| words.checked_mul(255))
+        == Some(octets)
 }
 
 // From where each data octet of the line comes. A mapping never changes.
@@ -51,10 +51,10 @@ pub trait Mapping {
             return Err(MappingFault::Memory);
         }
         let taken = out.len().min(memory.len() - start);
-        for i in 0..taken {
+        for (i, octet) in out[..taken].iter_mut().enumerate() {
             let q = self.source(start + i)?;
             let mask = self.mask(start + i)?;
-            out[i] = memory[q] ^ mask;
+            *octet = memory[q] ^ mask;
         }
         Ok(taken)
     }
@@ -75,10 +75,10 @@ pub trait Mapping {
             return Err(MappingFault::Memory);
         }
         let taken = line.len().min(memory.len() - start);
-        for i in 0..taken {
+        for (i, octet) in line[..taken].iter().enumerate() {
             let q = self.source(start + i)?;
             let mask = self.mask(start + i)?;
-            memory[q] = line[i] ^ mask;
+            memory[q] = *octet ^ mask;
         }
         Ok(taken)
     }

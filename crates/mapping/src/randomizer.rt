@@ -5,8 +5,11 @@ ghost use Rattle.std.proofs.lemmas.Nat.{xor_lt};
 ghost use Rattle.mapping.specs.Laws.{laws_alike};
 ghost use Rattle.mapping.specs.Digits.{sequence_lt};
 
-use crate::sequence::{add_sequence, randomized_part};
+use crate::sequence::add_sequence;
 use crate::{Mapping, MappingFault, sequence_octet};
+
+// The octets that are randomized at a time.
+const PART: usize = 255;
 
 // The mapping below, with the randomizer's sequence added to its mask.
 #[derive(Drop)]
@@ -58,7 +61,7 @@ impl<M: Mapping> Mapping for Randomized<M> {
         out: &mut [u8],
     ) -> Result<usize, MappingFault> {
         let taken = self.below.write_line(memory, start, out)?;
-        add_sequence(out, taken, start);
+        add_sequence(&mut out[..taken], start);
         Ok(taken)
     }
 
@@ -68,13 +71,14 @@ impl<M: Mapping> Mapping for Randomized<M> {
         start: usize,
         line: &[u8],
     ) -> Result<usize, MappingFault> {
-        let mut taken = self.below.store_line(memory, start, &line[0..0])?;
+        let mut taken = self.below.store_line(memory, start, &[])?;
         let wanted = line.len().min(memory.len() - start);
-        while taken < wanted {
-            let (part, size) = randomized_part(&line[taken..wanted], start + taken);
-            taken += self
-                .below
-                .store_line(memory, start + taken, &part[0..size])?;
+        for chunk in line[..wanted].chunks(PART) {
+            let mut buffer = [0; PART];
+            let part = &mut buffer[..chunk.len()];
+            part.copy_from_slice(chunk);
+            add_sequence(part, start + taken);
+            taken += self.below.store_line(memory, start + taken, part)?;
         }
         Ok(taken)
     }

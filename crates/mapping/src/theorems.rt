@@ -1,10 +1,12 @@
 // What holds of every mapping, and figures of the definitions.
+ghost use Rattle.std.specs.Prelude.{◌≡◌};
 ghost use Rattle.mapping.specs.ComesBack.{ComesBack};
 ghost use Rattle.mapping.specs.Cost.{SymbolCosts};
 ghost use Rattle.mapping.specs.FadeKept.{RiddenFade};
 ghost use Rattle.mapping.specs.Figures.{Figures};
+ghost use Rattle.mapping.specs.Randomizer.{randomized};
 
-use crate::{Mapping, MappingFault};
+use crate::{Mapping, MappingFault, Randomized};
 use settings::Settings;
 
 // The fade for a reach: whatever is altered within so many line places in a row, no word has more octets
@@ -13,6 +15,13 @@ pub fn ridden_fade<M: Mapping>(mapping: &M, reach: usize) -> Result<usize, Mappi
     ensures { RiddenFade (M.Mapping.meaning mapping.now) reach result }
 {
     mapping.fade(reach)
+}
+
+// The randomizer over a mapping is what its definition says of that mapping.
+pub fn randomizer_stands<M: Mapping>(below: M) -> Randomized<M>
+    ensures { ⟦<Randomized<M> as Mapping>⟧.meaning result ≡ randomized (M.Mapping.meaning below) }
+{
+    Randomized::over(below)
 }
 
 // Whatever the mapping, the line of a block, stored as it was written, gives the memory again.

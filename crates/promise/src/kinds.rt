@@ -1,4 +1,4 @@
-// The codes and the interleavers that a link may be built with.
+// The codes that a link may be built with.
 ghost use Rattle.std.specs.Prelude.{◌≡◌};
 ghost use Rattle.promise.specs.Kinds.{code_of};
 
@@ -32,11 +32,4 @@ impl CodeName {
             CodeName::Bare => Bare.reach(),
         }
     }
-}
-
-// In which order a block's octets go to the line: by the block mapping, or by the stepped mapping with a step.
-#[derive(Clone, Copy, Debug, PartialEq, Eq)]
-pub enum Interleaver {
-    Block,
-    Stepped(usize),
 }

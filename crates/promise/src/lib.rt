@@ -8,6 +8,7 @@ mod quoting;
 mod theorems;
 
 pub use figures::Quote;
-pub use kinds::{CodeName, Interleaver};
+pub use kinds::CodeName;
 pub use links::quote_link;
+pub use mapping::Interleaver;
 pub use theorems::{bench_values_stand, promise_applies};

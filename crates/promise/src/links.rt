@@ -6,9 +6,9 @@ ghost use Rattle.promise.specs.Quotes.{Quoted};
 ghost use Rattle.promise.specs.Kinds.{code_of, masked, LinkQuoted};
 
 use crate::quoting::quote;
-use crate::{CodeName, Interleaver, Quote};
+use crate::{CodeName, Quote};
 use code::{Bare, Code};
-use mapping::{BlockMapping, Mapping, MappingFault, Randomized, SteppedMapping};
+use mapping::{Interleaved, Interleaver, Mapping, MappingFault, Randomized};
 use rs16::Rs16;
 use settings::Settings;
 
@@ -46,16 +46,8 @@ fn quote_interleaved<C: Code>(
 ) -> Result<Quote, MappingFault>
     ensures { LinkQuoted settings.now (C.Code.meaning code.now) interleaver randomize result }
 {
-    match interleaver {
-        Interleaver::Block => {
-            let mapping = BlockMapping::new(*settings);
-            Ok(quote_masked(settings, code, mapping, randomize))
-        }
-        Interleaver::Stepped(step) => {
-            let mapping = SteppedMapping::new(*settings, step)?;
-            Ok(quote_masked(settings, code, mapping, randomize))
-        }
-    }
+    let mapping = Interleaved::new(*settings, interleaver)?;
+    Ok(quote_masked(settings, code, mapping, randomize))
 }
 
 // What may be quoted for a link of these settings, with this code and this interleaver and, if wanted, the randomizer.

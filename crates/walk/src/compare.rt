@@ -1,4 +1,6 @@
 // A mapping's walk against its sources one by one, over a whole block.
+ghost use Rattle.std.specs.Prelude.{◌<◌};
+
 use mapping::{Mapping, MappingFault};
 
 // Whether the walk wrote the line that the sources give, and whether the line, stored, gives the memory again.
@@ -18,23 +20,9 @@ pub(crate) fn fill(memory: &mut [u8]) {
 
 // One number for a line.
 fn checksum_of(line: &[u8]) -> u32 {
-    let mut sum: u32 = 2_166_136_261;
-    for octet in line {
-        sum = (sum ^ u32::from(*octet)).wrapping_mul(16_777_619);
-    }
-    sum
-}
-
-fn same(a: &[u8], b: &[u8]) -> bool {
-    if a.len() != b.len() {
-        return false;
-    }
-    for i in 0..a.len() {
-        if a[i] != b[i] {
-            return false;
-        }
-    }
-    true
+    line.iter().fold(2_166_136_261, |sum, octet| {
+        (sum ^ u32::from(*octet)).wrapping_mul(16_777_619)
+    })
 }
 
 // The line, place by place.
@@ -43,11 +31,11 @@ pub(crate) fn write_by_place<M: Mapping>(
     memory: &[u8],
     line: &mut [u8],
 ) -> Result<(), MappingFault> {
-    for p in 0..line.len() {
+    for (p, octet) in line.iter_mut().enumerate() {
         let q = mapping.source(p)?;
         let mask = mapping.mask(p)?;
-        if q < memory.len() {
-            line[p] = memory[q] ^ mask;
+        if let Some(held) = memory.get(q) {
+            *octet = *held ^ mask;
         }
     }
     Ok(())
@@ -59,12 +47,12 @@ pub(crate) fn write_in_stretches<M: Mapping>(
     memory: &[u8],
     line: &mut [u8],
     stretch: usize,
-) -> Result<(), MappingFault> {
+) -> Result<(), MappingFault>
+    requires { 0 < stretch }
+{
     let mut at = 0;
-    while at < line.len() {
-        let end = line.len().min(at.saturating_add(stretch).max(at + 1));
-        mapping.write_line(memory, at, &mut line[at..end])?;
-        at = end;
+    for part in line.chunks_mut(stretch) {
+        at += mapping.write_line(memory, at, part)?;
     }
     Ok(())
 }
@@ -75,12 +63,12 @@ pub(crate) fn store_in_stretches<M: Mapping>(
     memory: &mut [u8],
     line: &[u8],
     stretch: usize,
-) -> Result<(), MappingFault> {
+) -> Result<(), MappingFault>
+    requires { 0 < stretch }
+{
     let mut at = 0;
-    while at < line.len() {
-        let end = line.len().min(at.saturating_add(stretch).max(at + 1));
-        mapping.store_line(memory, at, &line[at..end])?;
-        at = end;
+    for part in line.chunks(stretch) {
+        at += mapping.store_line(memory, at, part)?;
     }
     Ok(())
 }
@@ -93,9 +81,9 @@ pub(crate) fn compare<M: Mapping>(
 ) -> Result<Verdict, MappingFault> {
     write_by_place(mapping, memory, line)?;
     write_in_stretches(mapping, memory, other, 997)?;
-    let alike = same(line, other);
+    let alike = line[..] == other[..];
     store_in_stretches(mapping, other, line, 613)?;
-    let back = same(other, memory);
+    let back = other[..] == memory[..];
     Ok(Verdict {
         checksum: checksum_of(line),
         alike,

@@ -2,9 +2,10 @@
 // with an argument it times both instead.
 #![tactic(auto)]
 
-use mapping::{BlockMapping, Mapping, MappingFault, Randomized, SteppedMapping};
+use mapping::Interleaver::{self, Block, Stepped};
+use mapping::{Interleaved, MappingFault, Randomized};
 use settings::Settings;
-use std::{env, io};
+use std::{env, fmt, io};
 
 mod compare;
 mod timing;
@@ -12,87 +13,43 @@ mod timing;
 use compare::{Verdict, compare, fill};
 use timing::time_all;
 
-// Settings and a step, 0 for the block mapping.
+// Depth, rows and symbol of the settings, and an interleaver.
 #[derive(Clone, Copy)]
-struct Case {
-    depth: usize,
-    rows: usize,
-    symbol: usize,
-    step: usize,
+struct Case(usize, usize, usize, Interleaver);
+
+// The numbers, and the step or 0.
+impl fmt::Display for Case {
+    fn fmt<W: fmt::Write>(&self, f: &mut fmt::Formatter<W>) -> fmt::Result {
+        let Case(depth, rows, symbol, interleaver) = *self;
+        let step = match interleaver {
+            Block => 0,
+            Stepped(step) => step,
+        };
+        write!(f, "{depth} {rows} {symbol} {step}")
+    }
 }
 
 const CASES: [Case; 9] = [
-    Case {
-        depth: 1,
-        rows: 2,
-        symbol: 5,
-        step: 0,
-    },
-    Case {
-        depth: 1,
-        rows: 2,
-        symbol: 5,
-        step: 1,
-    },
-    Case {
-        depth: 5,
-        rows: 64,
-        symbol: 5,
-        step: 0,
-    },
-    Case {
-        depth: 5,
-        rows: 64,
-        symbol: 5,
-        step: 7,
-    },
-    Case {
-        depth: 4,
-        rows: 10,
-        symbol: 17,
-        step: 61,
-    },
-    Case {
-        depth: 2,
-        rows: 3,
-        symbol: 255,
-        step: 255,
-    },
-    Case {
-        depth: 3,
-        rows: 1,
-        symbol: 765,
-        step: 2,
-    },
-    Case {
-        depth: 8,
-        rows: 100,
-        symbol: 1,
-        step: 200,
-    },
-    Case {
-        depth: 8,
-        rows: 512,
-        symbol: 8,
-        step: 0,
-    },
+    Case(1, 2, 5, Block),
+    Case(1, 2, 5, Stepped(1)),
+    Case(5, 64, 5, Block),
+    Case(5, 64, 5, Stepped(7)),
+    Case(4, 10, 17, Stepped(61)),
+    Case(2, 3, 255, Stepped(255)),
+    Case(3, 1, 765, Stepped(2)),
+    Case(8, 100, 1, Stepped(200)),
+    Case(8, 512, 8, Block),
 ];
 
-// The mapping of a case, plain and under the randomizer.
+// The mapping of an interleaver, plain and under the randomizer.
 fn verdicts(
-    case: Case,
     settings: Settings,
+    interleaver: Interleaver,
     memory: &[u8],
     line: &mut [u8],
     other: &mut [u8],
 ) -> Result<(Verdict, Verdict), MappingFault> {
-    if case.step == 0 {
-        let mapping = BlockMapping::new(settings);
-        let plain = compare(&mapping, memory, line, other)?;
-        let layered = compare(&Randomized::over(mapping), memory, line, other)?;
-        return Ok((plain, layered));
-    }
-    let mapping = SteppedMapping::new(settings, case.step)?;
+    let mapping = Interleaved::new(settings, interleaver)?;
     let plain = compare(&mapping, memory, line, other)?;
     let layered = compare(&Randomized::over(mapping), memory, line, other)?;
     Ok((plain, layered))
@@ -103,40 +60,25 @@ fn word(good: bool) -> &'static str {
 }
 
 fn show(rt: &HostRuntime, case: Case) -> io::Result<()> {
-    let Case {
-        depth,
-        rows,
-        symbol,
-        step,
-    } = case;
+    let Case(depth, rows, symbol, interleaver) = case;
     let Ok(settings) = Settings::new(depth, rows, symbol, 1, 1) else {
-        return println!(rt; "{depth} {rows} {symbol} {step}: settings refused");
+        return println!(rt; "{case}: settings refused");
     };
     let size = settings.block_length();
     let mut memory = vec![in rt.alloc(); 0u8; size]?;
     let mut line = vec![in rt.alloc(); 0u8; size]?;
     let mut other = vec![in rt.alloc(); 0u8; size]?;
-    fill(memory.as_mut_slice());
-    match verdicts(
-        case,
-        settings,
-        memory.as_slice(),
-        line.as_mut_slice(),
-        other.as_mut_slice(),
-    ) {
+    fill(&mut memory);
+    match verdicts(settings, interleaver, &memory, &mut line, &mut other) {
         Ok((plain, layered)) => {
-            let sums = (plain.checksum, layered.checksum);
             let written = word(plain.alike && layered.alike);
             let stored = word(plain.back && layered.back);
             println!(rt;
-                "{depth} {rows} {symbol} {step}: {size} octets, {} {}, written {written}, stored {stored}",
-                sums.0, sums.1
+                "{case}: {size} octets, {} {}, written {written}, stored {stored}",
+                plain.checksum, layered.checksum
             )
         }
-        Err(fault) => {
-            let number = fault.number();
-            println!(rt; "{depth} {rows} {symbol} {step}: refused {number}")
-        }
+        Err(fault) => println!(rt; "{case}: refused {}", fault.number()),
     }
 }
 

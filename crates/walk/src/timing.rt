@@ -1,16 +1,29 @@
 // How long the line of a whole block takes, place by place and by the walk.
 use crate::compare::{fill, store_in_stretches, write_by_place, write_in_stretches};
-use mapping::{BlockMapping, Mapping, MappingFault, Randomized, SteppedMapping};
+use mapping::{Interleaved, Mapping, Randomized};
 use settings::Settings;
 use std::io;
-use std::time::Instant;
+use std::time::{Duration, Instant};
 
 // What is timed, and over how many octets at a time.
 const ROUNDS: usize = 8;
 
 const STRETCH: usize = 4096;
 
-// Prints the nanoseconds of each way over ROUNDS blocks.
+// How long so many rounds of a call take.
+#[inline(always)]
+fn time_of<F: FnMut() + Drop>(rt: &HostRuntime, mut call: F) -> io::Result<Duration>
+    requires { F.IsAlwaysCallable call }
+{
+    let start = Instant::now(rt)?;
+    for _ in 0..ROUNDS {
+        call();
+    }
+    start.elapsed(rt)
+}
+
+// Prints the nanoseconds of each way over ROUNDS blocks. Inlined, as is the call above, so that each mapping is timed in loops of its own.
+#[inline(always)]
 fn time_mapping<M: Mapping>(
     rt: &HostRuntime,
     name: &str,
@@ -18,21 +31,15 @@ fn time_mapping<M: Mapping>(
     memory: &mut [u8],
     line: &mut [u8],
 ) -> io::Result<()> {
-    let start = Instant::now(rt)?;
-    for _ in 0..ROUNDS {
+    let by_place = time_of(rt, || {
         let _ = write_by_place(mapping, memory, line);
-    }
-    let by_place = start.elapsed(rt)?;
-    let start = Instant::now(rt)?;
-    for _ in 0..ROUNDS {
+    })?;
+    let written = time_of(rt, || {
         let _ = write_in_stretches(mapping, memory, line, STRETCH);
-    }
-    let written = start.elapsed(rt)?;
-    let start = Instant::now(rt)?;
-    for _ in 0..ROUNDS {
+    })?;
+    let stored = time_of(rt, || {
         let _ = store_in_stretches(mapping, memory, line, STRETCH);
-    }
-    let stored = start.elapsed(rt)?;
+    })?;
     let octets = line.len();
     println!(rt;
         "{name}: {ROUNDS} blocks of {octets} octets, by place {by_place:?}, written {written:?}, stored {stored:?}"
@@ -43,31 +50,13 @@ fn time_settings(rt: &HostRuntime, settings: Settings) -> io::Result<()> {
     let size = settings.block_length();
     let mut memory = vec![in rt.alloc(); 0u8; size]?;
     let mut line = vec![in rt.alloc(); 0u8; size]?;
-    fill(memory.as_mut_slice());
-    let block = BlockMapping::new(settings);
-    time_mapping(
-        rt,
-        "block",
-        &block,
-        memory.as_mut_slice(),
-        line.as_mut_slice(),
-    )?;
+    fill(&mut memory);
+    let block = Interleaved::block(settings);
+    time_mapping(rt, "block", &block, &mut memory, &mut line)?;
     let layered = Randomized::over(block);
-    time_mapping(
-        rt,
-        "block randomized",
-        &layered,
-        memory.as_mut_slice(),
-        line.as_mut_slice(),
-    )?;
-    if let Ok(stepped) = SteppedMapping::new(settings, 7) {
-        time_mapping(
-            rt,
-            "stepped",
-            &stepped,
-            memory.as_mut_slice(),
-            line.as_mut_slice(),
-        )?;
+    time_mapping(rt, "block randomized", &layered, &mut memory, &mut line)?;
+    if let Ok(stepped) = Interleaved::stepped(settings, 7) {
+        time_mapping(rt, "stepped", &stepped, &mut memory, &mut line)?;
     }
     Ok(())
 }

@@ -3,7 +3,7 @@
 use super::{START, digest, fill, next};
 use crate::{BlockFault, Kind, NextAnswer, Receiver, Report, RowFault, Sender};
 use code::{Bare, Code};
-use mapping::{BlockMapping, Mapping, Randomized, SteppedMapping};
+use mapping::{Interleaved, Mapping, Randomized};
 use marker::Cause;
 use rs16::Rs16;
 use settings::Settings;
@@ -339,8 +339,8 @@ pub(super) fn allowed(
 }
 
 // The stepped mapping.
-pub(super) fn stepped(settings: Settings, step: usize) -> Result<SteppedMapping, Fail> {
-    match SteppedMapping::new(settings, step) {
+pub(super) fn stepped(settings: Settings, step: usize) -> Result<Interleaved, Fail> {
+    match Interleaved::stepped(settings, step) {
         Ok(mapping) => Ok(mapping),
         Err(_) => Err(Fail::new("step refused")),
     }
@@ -349,7 +349,7 @@ pub(super) fn stepped(settings: Settings, step: usize) -> Result<SteppedMapping,
 #[test]
 fn two_subframes_and_no_second_miss(rt: HostRuntime) -> Result<(), Fail> {
     let settings = allowed(1, 2, 5, 1, 1)?;
-    let block = BlockMapping::new(settings);
+    let block = Interleaved::block(settings);
     assert_eq!(rt;
         heard(&rt, settings, Bare, block, block)?,
         0xCEF3_54CF_B733_F6AD
@@ -360,7 +360,7 @@ fn two_subframes_and_no_second_miss(rt: HostRuntime) -> Result<(), Fail> {
 #[test]
 fn one_subframe(rt: HostRuntime) -> Result<(), Fail> {
     let settings = allowed(1, 2, 51, 2, 2)?;
-    let block = BlockMapping::new(settings);
+    let block = Interleaved::block(settings);
     assert_eq!(rt;
         heard(&rt, settings, Bare, block, block)?,
         0x8970_EB71_EBAA_EFF2
@@ -386,7 +386,7 @@ fn two_words_stepped_and_randomized(rt: HostRuntime) -> Result<(), Fail> {
 #[test]
 fn rs16_randomized(rt: HostRuntime) -> Result<(), Fail> {
     let settings = allowed(1, 3, 15, 1, 3)?;
-    let block = BlockMapping::new(settings);
+    let block = Interleaved::block(settings);
     let found = heard(
         &rt,
         settings,

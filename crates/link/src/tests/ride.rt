@@ -4,7 +4,7 @@ use super::fill;
 use super::receiver::{Log, allowed, alter, stepped};
 use crate::{NextAnswer, Receiver, Sender};
 use code::Code;
-use mapping::{BlockMapping, Mapping, Randomized};
+use mapping::{Interleaved, Mapping, Randomized};
 use rs16::Rs16;
 use settings::Settings;
 use std::process::Abort;
@@ -256,7 +256,7 @@ fn rides<M: Mapping + Drop>(
 #[test]
 fn rides_through_block_randomized(rt: HostRuntime) -> Result<(), Fail> {
     let settings = allowed(2, 3, 5, 1, 2)?;
-    let block = BlockMapping::new(settings);
+    let block = Interleaved::block(settings);
     for taken_up in 0..9usize {
         rides(
             &rt,

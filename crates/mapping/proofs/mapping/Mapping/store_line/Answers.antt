@@ -1,17 +1,9 @@
-use Rattle.std.proofs.Common.{◌+◌, ◌-◌, min, length, get_or, ap, ◌∙◌, arith}
+use Rattle.std.proofs.Common.{◌+◌, ap₂, arith}
+use Rattle.std.proofs.Common.{get_or}
 use lib.Bits.{bit_xor}
-use Rattle.mapping.proofs.Stretching.{told, full_of, stored_none, stored_more, stored_all}
+use Rattle.std.proofs.lemmas.List.{get_or-take, length-take}
+use Rattle.mapping.proofs.Stretching.{told, full_of, stored_more}
 use Rattle.mapping.proofs.mapping.Mapping.store_line.Goals as goal
-
-pub loop-i-init : goal.loop-i-init
-loop-i-init g c = stored_none _ _ c.args.start c.args.memory.now
-
-pub bounds-memory-q : goal.bounds-memory-q
-bounds-memory-q g c =
-    let m = g.Self.Mapping.meaning c.args.self.now in
-    let full = full_of m c.args.memory.now c.depth.result c.rows.result c.depth.ensures c.rows.ensures c.if-not-fills_block.ensures in
-    let q = told m m.source (c.args.start + c.loop-i.i) c.in_ok-q.q c.source-in-loop-i.result c.in_ok-q.was c.source-in-loop-i.ensures in
-    omega (arith, full, c.loop-i.invariant.size, q.1, (g.met.Self.Mapping.lawful c.args.self.now).inside (c.args.start + c.loop-i.i) q.0)
 
 pub loop-i-preserved : goal.loop-i-preserved
 loop-i-preserved g c =
@@ -20,13 +12,6 @@ loop-i-preserved g c =
     let full = full_of m c.args.memory.now c.depth.result c.rows.result c.depth.ensures c.rows.ensures c.if-not-fills_block.ensures in
     let q = told m m.source p c.in_ok-q.q c.source-in-loop-i.result c.in_ok-q.was c.source-in-loop-i.ensures in
     let mask = told m m.mask p c.in_ok-mask.mask c.mask.result c.in_ok-mask.was c.mask.ensures in
-    stored_more m (g.met.Self.Mapping.lawful c.args.self.now) _ c.args.start c.args.memory.now c.loop-i.memory c.loop-i.i _ _
-    c.loop-i.invariant full q.0 q.1 (ap (λ b. bit_xor (get_or c.args.line.now c.loop-i.i 0) b) mask.1)
-
-pub returns : goal.returns
-returns g c =
-    let m = g.Self.Mapping.meaning c.args.self.now in
-    let full = full_of m c.args.memory.now c.depth.result c.rows.result c.depth.ensures c.rows.ensures c.if-not-fills_block.ensures in
-    let below = told m m.source c.args.start c.in_ok-source.field-0 c.source.result c.in_ok-source.was c.source.ensures in
-    stored_all m c.args.line.now c.args.memory.now c.loop-i.memory c.args.start c.min-taken.result c.loop-i.i
-    below.0 full (c.min-taken.ensures ∙ ap (λ b. min (length c.args.line.now) (b - c.args.start)) full) (omega arith) c.loop-i.invariant
+    let octet = get_or-take c.min-taken.result c.args.line.now c.loop-i.i 0 (omega (arith, length-take c.min-taken.result c.args.line.now)) in
+    stored_more m (g.met.Self.Mapping.lawful c.args.self.now) (λ j. bit_xor (get_or c.args.line.now j 0) (m.mask (c.args.start + j))) c.args.start c.args.memory.now c.loop-i.memory c.loop-i.i c.in_ok-q.q _
+    c.loop-i.invariant full q.0 q.1 (ap₂ (λ a b. bit_xor a b) octet mask.1)
