@@ -3,7 +3,7 @@
 ghost use Rattle.std.specs.Prelude.{◌≡◌, true};
 ghost use Rattle.link.specs.Refusal.{mapping_fits};
 ghost use Rattle.promise.specs.Quotes.{Quoted};
-ghost use Rattle.promise.specs.Kinds.{code_of, masked, LinkQuoted};
+ghost use Rattle.promise.specs.Kinds.{code_of, LinkQuoted};
 
 use crate::quoting::quote;
 use crate::{CodeName, Quote};
@@ -17,30 +17,10 @@ fn quote_fitting<C: Code, M: Mapping>(settings: &Settings, code: &C, mapping: &M
     requires { mapping_fits settings.now (M.Mapping.meaning mapping.now) ≡ true }
     ensures { Quoted settings.now (C.Code.meaning code.now) (M.Mapping.meaning mapping.now) result }
 {
-    match quote(settings, code, mapping) {
-        Ok(figures) => figures,
-        Err(_) => unreachable(),
-    }
+    quote(settings, code, mapping).unwrap()
 }
 
-// The quote over such a mapping, with the randomizer over it if that is wanted.
-fn quote_masked<C: Code, M: Mapping + Drop>(
-    settings: &Settings,
-    code: &C,
-    mapping: M,
-    randomize: bool,
-) -> Quote
-    requires { mapping_fits settings.now (M.Mapping.meaning mapping) ≡ true }
-    ensures { Quoted settings.now (C.Code.meaning code.now) (masked (M.Mapping.meaning mapping) randomize) result }
-{
-    if randomize {
-        let layered = Randomized::over(mapping);
-        return quote_fitting(settings, code, &layered);
-    }
-    quote_fitting(settings, code, &mapping)
-}
-
-// The quote over an interleaver's mapping.
+// The quote over an interleaver's mapping, with the randomizer over it if that is wanted.
 fn quote_interleaved<C: Code>(
     settings: &Settings,
     code: &C,
@@ -50,7 +30,11 @@ fn quote_interleaved<C: Code>(
     ensures { LinkQuoted settings.now (C.Code.meaning code.now) interleaver randomize result }
 {
     let mapping = Interleaved::new(*settings, interleaver)?;
-    Ok(quote_masked(settings, code, mapping, randomize))
+    if randomize {
+        let layered = Randomized::over(mapping);
+        return Ok(quote_fitting(settings, code, &layered));
+    }
+    Ok(quote_fitting(settings, code, &mapping))
 }
 
 // What may be quoted for a link of these settings, with this code and this interleaver and, if wanted, the randomizer.

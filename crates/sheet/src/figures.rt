@@ -14,8 +14,5 @@ pub fn quote_for(code: CodeName, settings: &Settings) -> Quote
     ensures figures { result ≡ figures_of code settings.now }
     ensures carried { Quoted settings.now (code_of code) (block_of settings.now) result }
 {
-    match quote_link(settings, code, Interleaver::Block, false) {
-        Ok(quote) => quote,
-        Err(_) => unreachable(),
-    }
+    quote_link(settings, code, Interleaver::Block, false).unwrap()
 }
