@@ -14,7 +14,7 @@ pub enum ShapeFault {
 
 impl ShapeFault {
     // The refusal's number: 1 or 8.
-    // Kept: the C interface of `exports` answers by the refusals' numbers.
+    // Kept: refusals are told by their numbers, which docs/CALLS.md lists.
     pub fn number(&self) -> usize
         ensures { result ≡ shape_number self.now }
     {
@@ -36,7 +36,7 @@ pub enum MendFault {
 
 impl MendFault {
     // The refusal's number: 1, 8 or 9.
-    // Kept: the C interface of `exports` answers by the refusals' numbers.
+    // Kept: refusals are told by their numbers, which docs/CALLS.md lists.
     pub fn number(&self) -> usize
         ensures { result ≡ mend_number self.now }
     {

@@ -1,4 +1,5 @@
 // The calls of `exports` for programs in C or Rust: a static library with one symbol for each call, under the call's name.
+// Kept: a C interface is a static library, on which no crate can stand, so the calls are in `exports` and their symbols here.
 #![tactic(auto)]
 
 ghost use Rattle.exports.specs.Numbers.{EncodesByNumber, MendsByNumber};

@@ -2,7 +2,7 @@
 ghost use Rattle.std.specs.Prelude.{◌≡◌};
 ghost use Rattle.link.specs.Refusal.{making_number, put_number, draw_number};
 
-// An end can't be made.
+// An end can't be made. Kept: each call that refuses has an enum of its refusals, and this one refuses for one reason.
 #[derive(Clone, Copy, Debug, PartialEq, Eq)]
 pub enum MakingFault {
     // the mapping was made for another depth or other rows
@@ -11,6 +11,7 @@ pub enum MakingFault {
 
 impl MakingFault {
     // The refusal's number: 10.
+    // Kept: refusals are told by their numbers, which docs/CALLS.md lists.
     pub fn number(&self) -> usize
         ensures { result ≡ making_number self.now }
     {
@@ -33,6 +34,7 @@ pub enum PutFault {
 
 impl PutFault {
     // The refusal's number: 11, 12 or 13.
+    // Kept: refusals are told by their numbers, which docs/CALLS.md lists.
     pub fn number(&self) -> usize
         ensures { result ≡ put_number self.now }
     {
@@ -55,6 +57,7 @@ pub enum DrawFault {
 
 impl DrawFault {
     // The refusal's number: 11 or 14.
+    // Kept: refusals are told by their numbers, which docs/CALLS.md lists.
     pub fn number(&self) -> usize
         ensures { result ≡ draw_number self.now }
     {

@@ -15,6 +15,7 @@ pub enum FeedFault {
 
 impl FeedFault {
     // The refusal's number: 11 or 15.
+    // Kept: refusals are told by their numbers, which docs/CALLS.md lists.
     pub fn number(&self) -> usize
         ensures { result ≡ feed_number self.now }
     {
@@ -36,6 +37,7 @@ pub enum NextFault {
 
 impl NextFault {
     // The refusal's number: 11 or 16.
+    // Kept: refusals are told by their numbers, which docs/CALLS.md lists.
     pub fn number(&self) -> usize
         ensures { result ≡ next_number self.now }
     {
@@ -57,6 +59,7 @@ pub enum ShowFault {
 
 impl ShowFault {
     // The refusal's number: 11 or 17.
+    // Kept: refusals are told by their numbers, which docs/CALLS.md lists.
     pub fn number(&self) -> usize
         ensures { result ≡ show_number self.now }
     {

@@ -9,6 +9,8 @@ use std::test::Fail;
 mod receiver;
 mod ride;
 
+// Kept: `vectors` has a digest and a generator of its own, since one crate for both would be one that the link stands on for its tests alone.
+
 // A digest's start and factor (FNV-1a, 64 digits).
 const START: u64 = 0xCBF2_9CE4_8422_2325;
 
@@ -139,7 +141,11 @@ fn a_block_of_two_rows(rt: HostRuntime) -> Result<(), Fail> {
 #[test]
 fn a_randomized_block(rt: HostRuntime) -> Result<(), Fail> {
     let settings = Settings::new(2, 12, 17, 3, 1)?;
-    let found = drawn(&rt, settings, Randomized::over(Interleaved::block(settings)))?;
+    let found = drawn(
+        &rt,
+        settings,
+        Randomized::over(Interleaved::block(settings)),
+    )?;
     assert_eq!(rt;
         found,
         Figures {
@@ -186,7 +192,11 @@ fn a_stepped_block(rt: HostRuntime) -> Result<(), Fail> {
 #[test]
 fn a_block_of_whole_rows(rt: HostRuntime) -> Result<(), Fail> {
     let settings = Settings::new(8, 3, 2040, 1, 1)?;
-    let found = drawn(&rt, settings, Randomized::over(Interleaved::block(settings)))?;
+    let found = drawn(
+        &rt,
+        settings,
+        Randomized::over(Interleaved::block(settings)),
+    )?;
     assert_eq!(rt;
         found,
         Figures {

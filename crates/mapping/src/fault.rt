@@ -14,6 +14,7 @@ pub enum MappingFault {
 
 impl MappingFault {
     // The refusal's number: 6, 7 or 11.
+    // Kept: refusals are told by their numbers, which docs/CALLS.md lists.
     pub fn number(&self) -> usize
         ensures { result ≡ number self.now }
     {

@@ -1,6 +1,6 @@
 // What seven octets say when they are read as a marker.
 
-// The count, whatever else is wrong, and what is right.
+// The count, whatever else is wrong, and what is right. Kept: neither flag says whether the count is there.
 #[derive(Clone, Copy, Debug, PartialEq, Eq)]
 pub struct Reading {
     pub count: usize,

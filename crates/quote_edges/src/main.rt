@@ -1,3 +1,4 @@
+// Kept: a program is run on one stdin, so the other sheet takes a second one; what both do is `answer_input`.
 // The program quote on a sheet of edges: its stdin has the ends of every range, spoiled forms and odd octets.
 #![tactic(auto)]
 

@@ -14,6 +14,7 @@ pub enum SettingsFault {
 
 impl SettingsFault {
     // The refusal's number: 1 to 5.
+    // Kept: refusals are told by their numbers, which docs/CALLS.md lists.
     pub fn number(&self) -> usize
         ensures { result ≡ number self.now }
     {

@@ -26,6 +26,7 @@ pub enum LineFault {
 
 impl LineFault {
     // The refusal's number: 18, or that of the settings.
+    // Kept: refusals are told by their numbers, which docs/CALLS.md lists.
     pub fn number(&self) -> usize
         ensures { result ≡ number self.now }
     {

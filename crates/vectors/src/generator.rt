@@ -1,4 +1,4 @@
-// A small generator (xorshift, 32 digits).
+// A small generator (xorshift, 32 digits). Kept: the tests of `link` have their own, and no crate for both.
 
 #[derive(Drop)]
 pub(crate) struct Generator(u32);
