@@ -18,7 +18,7 @@ facts() {
 }
 case "${1:-all}" in
 1) single_variants
-   say 'fn number\(|gap: usize|kind: u32|has: &|upto: usize|step: 0,|settings, 0, memory|-> \(usize, \[|-> usize$.*|ByNumber \(|refused\(|\) -> \(u64, u64, usize\)|ended: bool' | grep -vE '\) -> usize$' ;;
+   say 'fn number\(|gap: usize|kind: u32|has: &|upto: usize|step: 0,|settings, 0, memory|-> \(usize, \[|fn rs16_.*_word|refused\(|\) -> \(u64, u64, usize\)|ended: bool|, sync_right: bool|_right: bool|enum (Sign|Stop)|struct Stop|altered: &mut usize' ;;
 2) grep -hoE 'fn [a-z_0-9]+' $(grep -L 'cfg(test)' $(src)) | sort | uniq -c | awk '$1 > 1 && $3 !~ /^(new|from|depth|rows|source|mask|fade|write_line|store_line|information|reach|encode|mend|number|main|fmt|next)$/ { print "in two files: fn " $3 }'
    grep -hoE '^pub (struct|enum) [A-Za-z]+' $(src) | sort | uniq -d
    say '^ *(pub|pub\(crate\)) fn (block|stepped|randomized|bare|rs16|encode|mend|note)_[a-z_0-9]+|^pub struct (BlockMapping|SteppedMapping)|^fn main\(rt: HostRuntime\)|^fn next\(|^pub struct (Row|Marker)Record' | grep -vE 'exports|note_report|note_next|encode_frame|mend_rows|mend_row\b' ;;

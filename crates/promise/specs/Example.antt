@@ -1,4 +1,4 @@
--- That the promise speaks of something: its premises can be met, and what it says then.
+-- That the promise speaks of something: the premises of arrival and ride-through can be met, and what they say then.
 use Rattle.std.specs.Prelude.{◌≡◌, List, ◌∷◌, Ok, replicate}
 use Rattle.settings.specs.declared.Settings.{Settings}
 use Rattle.settings.specs.Made.{Holds}

@@ -7,7 +7,7 @@ pub fn bench_values_stand()
     ensures { BenchValues }
 {}
 
-// The promise's premises can be met: a link whose second block, with a whole fade of it altered, is delivered as it was put.
+// The premises of arrival and ride-through can be met: a link whose second block, with a whole fade of it altered, is delivered as it was put.
 pub fn promise_applies()
     ensures { PromiseApplies }
 {}

@@ -34,7 +34,7 @@ pub fn answer_sheet(heap: Global, sheet: &[u8]) -> Result<String, AllocError>
     Ok(answers)
 }
 
-// Reads a sheet, and writes its answers. Nothing is written where reading fails or memory runs out.
+// Reads a sheet, and writes its answers.
 pub fn answer_input<R: Read + Drop, W: Write>(
     heap: Global,
     input: R,
@@ -54,10 +54,10 @@ mod tests {
 
     #[test]
     fn sheet_is_read_and_answered(rt: HostRuntime) -> io::Result<()> {
-        let form =
+        let sheet =
             b"(link (code rs16) (depth 1) (symbol 5) (rows 2) (sub 1) (misses 1))\n(link (code rs8)";
         let mut output = Vec::new(rt.alloc());
-        answer_input(rt.alloc(), form.as_slice(), &mut output)?;
+        answer_input(rt.alloc(), sheet.as_slice(), &mut output)?;
         let answers =
             b"(quote (frame 223) (block 510) (fade 31) (resync 262))\n(refused 18 at 14)\n";
         assert!(rt; output.as_slice() == answers.as_slice());

@@ -14,7 +14,8 @@ pub use kinds::{MarkerRecord, RowRecord};
 pub use theorems::{lists_agree, orders_stand};
 
 // A list in the first `used` of the slots, greatest first. What the slots behind it hold is of no account.
-// Kept: the slots are the caller's and no heap is used, so the list has a number beside them and is gone through from its front.
+// Kept: a number beside the slots, which are the caller's, since no heap is used; and a walk from the front in place of a binary search,
+// since the type does not say that the records descend: that would ask an order of every T.
 #[derive(Drop)]
 pub struct WorstList<'a, T> {
     slots: &'a mut [T],
