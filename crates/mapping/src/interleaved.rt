@@ -5,6 +5,7 @@ ghost use Rattle.mapping.specs.Interleaver.{block_of, stepped_of, columns, symbo
 ghost use Rattle.mapping.specs.Refusal.{step_is_allowed, interleaver_is_allowed};
 ghost use Rattle.mapping.specs.Laws.{interleaved_laws};
 
+use crate::mapping::stretch;
 use crate::walk::Walk;
 use crate::{Interleaver, Mapping, MappingFault};
 use settings::Settings;
@@ -74,14 +75,13 @@ impl Interleaved {
     fn stretch(&self, octets: usize, start: usize, room: usize) -> Result<usize, MappingFault>
         ensures { StretchAnswer (interleaved self.now.settings self.now.interleaver) octets start room result }
     {
-        let block = self.settings.block_length();
-        if start >= block {
-            return Err(MappingFault::Place);
-        }
-        if octets != block {
-            return Err(MappingFault::Memory);
-        }
-        Ok(room.min(block - start))
+        stretch(
+            self.settings.depth(),
+            self.settings.rows(),
+            octets,
+            start,
+            room,
+        )
     }
 }
 
