@@ -1,5 +1,5 @@
 -- A stretch of the line written or stored octet by octet.
-use Rattle.std.proofs.Common.{◌≡◌, ℕ, ◌+◌, ◌-◌, ◌*◌, ◌++◌, drop, ◌<◌, ◌≤◌, true, eqb, ltb, ◌≢◌, ◌⊎◌, List, length, get_or, set, Some, None, Ok, Err, Result, sym, ap, ◌∙◌, ap₂, inl, inr, arith, length-set, get_or-set_other, get_or-set_same}
+use Rattle.std.proofs.Common.{◌≡◌, ℕ, ◌+◌, ◌-◌, ◌*◌, ◌++◌, drop, ◌<◌, ◌≤◌, eqb, ltb, ◌≢◌, ◌⊎◌, List, length, get_or, set, Some, None, Ok, Err, Result, sym, ap, ◌∙◌, ap₂, inl, inr, arith, length-set, get_or-set_other, get_or-set_same}
 use lib.Bits.{bit_xor}
 use Rattle.std.proofs.Common.{length-append, length-drop}
 use Rattle.std.proofs.lemmas.List.{get_or_append_left, get_or-append_right, get_or-drop}

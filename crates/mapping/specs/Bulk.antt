@@ -11,6 +11,7 @@ block_refusal block octets start =
     cond (octets == block) None (Some Memory)
     ) (Some Place)
 
+-- the same of a mapping's block
 abbrev pub stretch_refusal : MappingMeaning → ℕ → ℕ → Option MappingFault
 stretch_refusal m octets start = block_refusal (block_size m) octets start
 
@@ -25,8 +26,7 @@ BlockAnswer block octets start room (Err e) = block_refusal block octets start �
 
 -- the same of a mapping
 abbrev pub StretchAnswer : MappingMeaning → ℕ → ℕ → ℕ → Result ℕ MappingFault → Type 0
-StretchAnswer m octets start room (Ok taken) = (stretch_refusal m octets start ≡ None) × (taken ≡ stretch m start room)
-StretchAnswer m octets start room (Err e) = stretch_refusal m octets start ≡ Some e
+StretchAnswer m = BlockAnswer (block_size m)
 
 -- data octet p of the line
 abbrev pub line_octet : MappingMeaning → List ℕ → ℕ → ℕ
