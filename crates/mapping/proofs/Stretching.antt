@@ -1,11 +1,11 @@
 -- A stretch of the line written or stored octet by octet.
-use Rattle.std.proofs.Common.{◌≡◌, ℕ, ◌+◌, ◌-◌, ◌*◌, ◌++◌, drop, ◌<◌, ◌≤◌, true, eqb, ltb, ◌≢◌, ◌⊎◌, List, length, get_or, set, Some, None, Ok, Err, Result, sym, ap, ◌∙◌, ap₂, inl, inr, arith, length-set, get_or-set_other, get_or-set_same}
+use Rattle.std.proofs.Common.{◌≡◌, ℕ, ◌+◌, ◌-◌, ◌*◌, ◌++◌, drop, ◌<◌, ◌≤◌, eqb, ltb, ◌≢◌, ◌⊎◌, List, length, get_or, set, Some, None, Ok, Err, Result, sym, ap, ◌∙◌, ap₂, inl, inr, arith, length-set, get_or-set_other, get_or-set_same}
 use lib.Bits.{bit_xor}
 use Rattle.std.proofs.Common.{length-append, length-drop}
 use Rattle.std.proofs.lemmas.List.{get_or_append_left, get_or-append_right, get_or-drop}
 use Rattle.std.proofs.lemmas.Bool.{cases_Bool, cases_eq, ltb-true, lt-ltb, eq-eqb, eqb-true}
 use Rattle.mapping.specs.Answers.{place_answer}
-use Rattle.mapping.specs.Bulk.{stretch_refusal, stretch, line_octet, LineWritten, LineStored}
+use Rattle.mapping.specs.Bulk.{block_refusal, stretch_refusal, stretch, line_octet, LineWritten, LineStored}
 use Rattle.mapping.specs.Meaning.{MappingMeaning, MappingLaws, block_size}
 use Rattle.mapping.specs.declared.fault.MappingFault.{MappingFault}
 use Rattle.mapping.specs.declared.fault.MappingFault.TheVariants.{Place, Memory}
@@ -19,12 +19,6 @@ told m f p v r was e = elim (cases_Bool (ltb p (block_size m))) [
       let same : r ≡ Err Place = rw past at e in
       let z : ◌≡◌ {A = ℕ} 0 1 = cc in absurd (omega arith)
 ]
-
--- a memory that was seen to fill the block has the block's length
-pub full_of : (m : MappingMeaning) (memory : List ℕ) (depth rows : ℕ) → depth ≡ m.depth → rows ≡ m.rows
-    → true ≡ eqb (length memory) (255 * depth * rows) → length memory ≡ block_size m
-full_of m memory depth rows deep many seen =
-    eqb-true (length memory) (255 * depth * rows) (sym seen) ∙ ap₂ (λ d n. 255 * d * n) deep many
 
 -- nothing is refused of a stretch that begins below the block's end, with a memory of the block's length
 pub none_refused : (m : MappingMeaning) (octets start : ℕ) → start < block_size m → octets ≡ block_size m → stretch_refusal m octets start ≡ None
@@ -43,6 +37,13 @@ not_refused m octets start e = elim (cases_Bool (ltb start (block_size m))) [
       let same : Some Place ≡ None = rw past at e in
       let z : ◌≡◌ {A = ℕ} 0 1 = cc in absurd (omega arith)
 ]
+
+-- a memory that is not refused, by what is told of the depth and the rows, has the block's length
+pub full_of : (m : MappingMeaning) (octets start depth rows : ℕ) → depth ≡ m.depth → rows ≡ m.rows
+    → block_refusal (255 * depth * rows) octets start ≡ None → octets ≡ block_size m
+full_of m octets start depth rows deep many e =
+    let same : stretch_refusal m octets start ≡ None = ap (λ b. block_refusal b octets start) (ap₂ (λ d n. 255 * d * n) (sym deep) (sym many)) ∙ e in
+    (not_refused m octets start same).1
 
 -- a place of a stretch lies below the block's end
 pub within : (m : MappingMeaning) (octets start room taken i : ℕ) → (stretch_refusal m octets start ≡ None) × (taken ≡ stretch m start room) → i < taken

@@ -5,20 +5,28 @@ use Rattle.mapping.specs.declared.fault.MappingFault.{MappingFault}
 use Rattle.mapping.specs.declared.fault.MappingFault.TheVariants.{Place, Memory}
 
 -- A stretch that does not begin below the block's end is refused first, then a memory that has not as many octets as the block.
-abbrev pub stretch_refusal : MappingMeaning → ℕ → ℕ → Option MappingFault
-stretch_refusal m octets start =
-    cond (nat_lt start (block_size m)) (
-    cond (octets == block_size m) None (Some Memory)
+abbrev pub block_refusal : ℕ → ℕ → ℕ → Option MappingFault
+block_refusal block octets start =
+    cond (nat_lt start block) (
+    cond (octets == block) None (Some Memory)
     ) (Some Place)
+
+-- the same of a mapping's block
+abbrev pub stretch_refusal : MappingMeaning → ℕ → ℕ → Option MappingFault
+stretch_refusal m octets start = block_refusal (block_size m) octets start
 
 -- how many octets a stretch takes: those that there is room for, or until the block ends
 abbrev pub stretch : MappingMeaning → ℕ → ℕ → ℕ
 stretch m start room = min room (block_size m - start)
 
--- the length of a stretch, or its refusal
+-- the length of a stretch of a block of so many octets, or its refusal
+abbrev pub BlockAnswer : ℕ → ℕ → ℕ → ℕ → Result ℕ MappingFault → Type 0
+BlockAnswer block octets start room (Ok taken) = (block_refusal block octets start ≡ None) × (taken ≡ min room (block - start))
+BlockAnswer block octets start room (Err e) = block_refusal block octets start ≡ Some e
+
+-- the same of a mapping
 abbrev pub StretchAnswer : MappingMeaning → ℕ → ℕ → ℕ → Result ℕ MappingFault → Type 0
-StretchAnswer m octets start room (Ok taken) = (stretch_refusal m octets start ≡ None) × (taken ≡ stretch m start room)
-StretchAnswer m octets start room (Err e) = stretch_refusal m octets start ≡ Some e
+StretchAnswer m = BlockAnswer (block_size m)
 
 -- data octet p of the line
 abbrev pub line_octet : MappingMeaning → List ℕ → ℕ → ℕ

@@ -5,6 +5,7 @@ ghost use Rattle.mapping.specs.Interleaver.{block_of, stepped_of, columns, symbo
 ghost use Rattle.mapping.specs.Refusal.{step_is_allowed, interleaver_is_allowed};
 ghost use Rattle.mapping.specs.Laws.{interleaved_laws};
 
+use crate::mapping::stretch;
 use crate::walk::Walk;
 use crate::{Interleaver, Mapping, MappingFault};
 use settings::Settings;
@@ -24,7 +25,8 @@ pub struct Interleaved {
 impl Interleaved {
     // The block mapping for these settings.
     pub fn block(settings: Settings) -> Interleaved
-        ensures { ⟦<Interleaved as Mapping>⟧.meaning result ≡ block_of settings }
+        ensures settings { result.settings ≡ settings }
+        ensures meaning { ⟦<Interleaved as Mapping>⟧.meaning result ≡ block_of settings }
     {
         let interleaver = Interleaver::Block;
         Interleaved {
@@ -36,7 +38,8 @@ impl Interleaved {
     // The stepped mapping for these settings; 6 unless the step is 1 to 255.
     pub fn stepped(settings: Settings, step: usize) -> Result<Interleaved, MappingFault>
         ensures { MatchResult result
-            (λ m. (step_is_allowed step ≡ true) × (⟦<Interleaved as Mapping>⟧.meaning m ≡ stepped_of settings step))
+            (λ m. (step_is_allowed step ≡ true) × (m.settings ≡ settings) × (m.interleaver ≡ Interleaver.Stepped step)
+            × (⟦<Interleaved as Mapping>⟧.meaning m ≡ stepped_of settings step))
             (λ e. (step_is_allowed step ≡ false) × (e ≡ MappingFault.Step)) }
     {
         Interleaved::new(settings, Interleaver::Stepped(step))
@@ -45,7 +48,8 @@ impl Interleaved {
     // The mapping of these settings and this interleaver; 6 unless a step is 1 to 255.
     pub fn new(settings: Settings, interleaver: Interleaver) -> Result<Interleaved, MappingFault>
         ensures { MatchResult result
-            (λ m. (interleaver_is_allowed interleaver ≡ true) × (⟦<Interleaved as Mapping>⟧.meaning m ≡ interleaved settings interleaver))
+            (λ m. (interleaver_is_allowed interleaver ≡ true) × (m.settings ≡ settings) × (m.interleaver ≡ interleaver)
+            × (⟦<Interleaved as Mapping>⟧.meaning m ≡ interleaved settings interleaver))
             (λ e. (interleaver_is_allowed interleaver ≡ false) × (e ≡ MappingFault.Step)) }
     {
         match interleaver {
@@ -71,14 +75,13 @@ impl Interleaved {
     fn stretch(&self, octets: usize, start: usize, room: usize) -> Result<usize, MappingFault>
         ensures { StretchAnswer (interleaved self.now.settings self.now.interleaver) octets start room result }
     {
-        let block = self.settings.block_length();
-        if start >= block {
-            return Err(MappingFault::Place);
-        }
-        if octets != block {
-            return Err(MappingFault::Memory);
-        }
-        Ok(room.min(block - start))
+        stretch(
+            self.settings.depth(),
+            self.settings.rows(),
+            octets,
+            start,
+            room,
+        )
     }
 }
 

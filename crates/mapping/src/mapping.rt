@@ -1,19 +1,35 @@
 // The interface of all mappings.
-ghost use Rattle.std.specs.Prelude.{◌≡◌, ◌*◌, ◌==◌};
+ghost use Rattle.std.specs.Prelude.{◌≡◌, ◌*◌};
 ghost use Rattle.mapping.specs.Answers.{source_answer, mask_answer, fade_answer};
-ghost use Rattle.mapping.specs.Bulk.{WriteAnswer, StoreAnswer};
+ghost use Rattle.mapping.specs.Bulk.{BlockAnswer, WriteAnswer, StoreAnswer};
 ghost use Rattle.mapping.specs.Meaning.{MappingMeaning, MappingLaws};
 
 use crate::MappingFault;
 
-// Whether so many octets are those of a block, of which the product may be past all numbers of the machine.
-fn fills_block(octets: usize, depth: usize, rows: usize) -> bool
-    ensures { result ≡ (octets == 255 * depth * rows) }
+// How many octets a stretch of a block takes that begins at line place `start` and has room for so many, or its
+// refusal. The octets of a block may be past all numbers of the machine.
+pub(crate) fn stretch(
+    depth: usize,
+    rows: usize,
+    octets: usize,
+    start: usize,
+    room: usize,
+) -> Result<usize, MappingFault>
+    ensures { BlockAnswer (255 * depth * rows) octets start room result }
 {
-    depth
+    let Some(block) = depth
         .checked_mul(rows)
         .and_then(|words| words.checked_mul(255))
-        == Some(octets)
+    else {
+        return Err(MappingFault::Memory);
+    };
+    if start >= block {
+        return Err(MappingFault::Place);
+    }
+    if octets != block {
+        return Err(MappingFault::Memory);
+    }
+    Ok(room.min(block - start))
 }
 
 // From where each data octet of the line comes. A mapping never changes.
@@ -46,11 +62,7 @@ pub trait Mapping {
     fn write_line(&self, memory: &[u8], start: usize, out: &mut [u8]) -> Result<usize, MappingFault>
         ensures { WriteAnswer (meaning self.now) memory.now start out.old out.new result }
     {
-        self.source(start)?;
-        if !fills_block(memory.len(), self.depth(), self.rows()) {
-            return Err(MappingFault::Memory);
-        }
-        let taken = out.len().min(memory.len() - start);
+        let taken = stretch(self.depth(), self.rows(), memory.len(), start, out.len())?;
         for (i, octet) in out[..taken].iter_mut().enumerate() {
             let q = self.source(start + i)?;
             let mask = self.mask(start + i)?;
@@ -70,11 +82,7 @@ pub trait Mapping {
     ) -> Result<usize, MappingFault>
         ensures { StoreAnswer (meaning self.now) line.now start memory.old memory.new result }
     {
-        self.source(start)?;
-        if !fills_block(memory.len(), self.depth(), self.rows()) {
-            return Err(MappingFault::Memory);
-        }
-        let taken = line.len().min(memory.len() - start);
+        let taken = stretch(self.depth(), self.rows(), memory.len(), start, line.len())?;
         for (i, octet) in line[..taken].iter().enumerate() {
             let q = self.source(start + i)?;
             let mask = self.mask(start + i)?;

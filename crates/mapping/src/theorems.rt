@@ -17,12 +17,10 @@ pub fn ridden_fade<M: Mapping>(mapping: &M, reach: usize) -> Result<usize, Mappi
     mapping.fade(reach)
 }
 
-// The randomizer over a mapping is what its definition says of that mapping.
-pub fn randomizer_stands<M: Mapping>(below: M) -> Randomized<M>
-    ensures { ⟦<Randomized<M> as Mapping>⟧.meaning result ≡ randomized (M.Mapping.meaning below) }
-{
-    Randomized::over(below)
-}
+// The randomizer over a mapping means what its definition says of that mapping.
+pub fn randomizer_stands<M: Mapping>(layered: &Randomized<M>)
+    ensures { ⟦<Randomized<M> as Mapping>⟧.meaning layered.now ≡ randomized (M.Mapping.meaning layered.now.below) }
+{}
 
 // Whatever the mapping, the line of a block, stored as it was written, gives the memory again.
 pub fn line_comes_back<M: Mapping>(_mapping: &M)

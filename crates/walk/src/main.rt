@@ -13,33 +13,51 @@ mod timing;
 use compare::{Verdict, compare, fill};
 use timing::time_all;
 
-// Depth, rows and symbol of the settings, and an interleaver.
+// Figures of settings, and an interleaver.
 #[derive(Clone, Copy)]
-struct Case(usize, usize, usize, Interleaver);
+struct Case {
+    depth: usize,
+    rows: usize,
+    symbol: usize,
+    interleaver: Interleaver,
+}
 
-// The numbers, and the step or 0.
-impl fmt::Display for Case {
-    fn fmt<W: fmt::Write>(&self, f: &mut fmt::Formatter<W>) -> fmt::Result {
-        let Case(depth, rows, symbol, interleaver) = *self;
-        let step = match interleaver {
-            Block => 0,
-            Stepped(step) => step,
-        };
-        write!(f, "{depth} {rows} {symbol} {step}")
+impl Case {
+    fn of(depth: usize, rows: usize, symbol: usize, interleaver: Interleaver) -> Case {
+        Case {
+            depth,
+            rows,
+            symbol,
+            interleaver,
+        }
     }
 }
 
-const CASES: [Case; 9] = [
-    Case(1, 2, 5, Block),
-    Case(1, 2, 5, Stepped(1)),
-    Case(5, 64, 5, Block),
-    Case(5, 64, 5, Stepped(7)),
-    Case(4, 10, 17, Stepped(61)),
-    Case(2, 3, 255, Stepped(255)),
-    Case(3, 1, 765, Stepped(2)),
-    Case(8, 100, 1, Stepped(200)),
-    Case(8, 512, 8, Block),
-];
+// The numbers, and the step or 0.
+// Kept: the stored output has 0 where the block mapping stands.
+impl fmt::Display for Case {
+    fn fmt<W: fmt::Write>(&self, f: &mut fmt::Formatter<W>) -> fmt::Result {
+        let step = match self.interleaver {
+            Block => 0,
+            Stepped(step) => step,
+        };
+        write!(f, "{} {} {} {step}", self.depth, self.rows, self.symbol)
+    }
+}
+
+fn cases() -> [Case; 9] {
+    [
+        Case::of(1, 2, 5, Block),
+        Case::of(1, 2, 5, Stepped(1)),
+        Case::of(5, 64, 5, Block),
+        Case::of(5, 64, 5, Stepped(7)),
+        Case::of(4, 10, 17, Stepped(61)),
+        Case::of(2, 3, 255, Stepped(255)),
+        Case::of(3, 1, 765, Stepped(2)),
+        Case::of(8, 100, 1, Stepped(200)),
+        Case::of(8, 512, 8, Block),
+    ]
+}
 
 // The mapping of an interleaver, plain and under the randomizer.
 fn verdicts(
@@ -60,8 +78,7 @@ fn word(good: bool) -> &'static str {
 }
 
 fn show(rt: &HostRuntime, case: Case) -> io::Result<()> {
-    let Case(depth, rows, symbol, interleaver) = case;
-    let Ok(settings) = Settings::new(depth, rows, symbol, 1, 1) else {
+    let Ok(settings) = Settings::new(case.depth, case.rows, case.symbol, 1, 1) else {
         return println!(rt; "{case}: settings refused");
     };
     let size = settings.block_length();
@@ -69,7 +86,7 @@ fn show(rt: &HostRuntime, case: Case) -> io::Result<()> {
     let mut line = vec![in rt.alloc(); 0u8; size]?;
     let mut other = vec![in rt.alloc(); 0u8; size]?;
     fill(&mut memory);
-    match verdicts(settings, interleaver, &memory, &mut line, &mut other) {
+    match verdicts(settings, case.interleaver, &memory, &mut line, &mut other) {
         Ok((plain, layered)) => {
             let written = word(plain.alike && layered.alike);
             let stored = word(plain.back && layered.back);
@@ -86,7 +103,7 @@ fn main(rt: HostRuntime) -> io::Result<()> {
     if env::args(&rt)?.count() > 1 {
         return time_all(&rt);
     }
-    for case in CASES {
+    for case in cases() {
         show(&rt, case)?;
     }
     Ok(())

@@ -9,9 +9,9 @@ pub loop-i-preserved : goal.loop-i-preserved
 loop-i-preserved g c =
     let m = g.Self.Mapping.meaning c.args.self.now in
     let p = c.args.start + c.loop-i.i in
-    let full = full_of m c.args.memory.now c.depth.result c.rows.result c.depth.ensures c.rows.ensures c.if-not-fills_block.ensures in
-    let q = told m m.source p c.in_ok-q.q c.source-in-loop-i.result c.in_ok-q.was c.source-in-loop-i.ensures in
+    let full = full_of m _ c.args.start _ _ c.depth.ensures c.rows.ensures c.in_ok-taken.ensures.0 in
+    let q = told m m.source p c.in_ok-q.q c.source.result c.in_ok-q.was c.source.ensures in
     let mask = told m m.mask p c.in_ok-mask.mask c.mask.result c.in_ok-mask.was c.mask.ensures in
-    let octet = get_or-take c.min-taken.result c.args.line.now c.loop-i.i 0 (omega (arith, length-take c.min-taken.result c.args.line.now)) in
+    let octet = get_or-take c.in_ok-taken.taken c.args.line.now c.loop-i.i 0 (omega (arith, length-take c.in_ok-taken.taken c.args.line.now)) in
     stored_more m (g.met.Self.Mapping.lawful c.args.self.now) (λ j. bit_xor (get_or c.args.line.now j 0) (m.mask (c.args.start + j))) c.args.start c.args.memory.now c.loop-i.memory c.loop-i.i c.in_ok-q.q _
     c.loop-i.invariant full q.0 q.1 (ap₂ (λ a b. bit_xor a b) octet mask.1)
