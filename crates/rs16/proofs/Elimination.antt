@@ -52,11 +52,11 @@ apply_front p zero S h = sym (apply_zeros p S (λ k. h k (omega arith)))
 apply_front [] (suc n) S h = refl
 apply_front (c ∷ p) (suc n) S h = ap (λ z. c ⊗ S 0 ⊕ z) (apply_front p n (λ m. S (suc m)) (λ k l. h (suc k) (suc-le-suc l)))
 
-pub on_window : (p s : List ℕ) (n g : ℕ) → length s ≡ 32 → ((k : ℕ) → n ≤ k → get_or p k 0 ≡ 0)
-    → apply (take n p) (λ m. get_or (take (32 - g) (drop g s)) m 0) ≡ apply p (λ m. get_or s (g + m) 0)
-on_window p s n g size zeros =
-    ap (λ w. apply (take n p) (λ m. get_or w m 0)) (take_all (32 - g) (drop g s) (omega (arith, length-drop g s)))
-    ∙ apply_front p n (λ m. get_or (drop g s) m 0) zeros ∙ ap (apply p) (fun_ext (λ m. get_or-drop g s m 0))
+pub on_window : (t n : ℕ) (p s : List ℕ) (g : ℕ) → length s ≡ 32 → Monic t n p
+    → apply (take (n + 1) p) (λ m. get_or (take (32 - g) (drop g s)) m 0) ≡ apply p (λ m. get_or s (g + m) 0)
+on_window t n p s g size monic =
+    ap (λ w. apply (take (n + 1) p) (λ m. get_or w m 0)) (take_all (32 - g) (drop g s) (omega (arith, length-drop g s)))
+    ∙ apply_front p (n + 1) (λ m. get_or (drop g s) m 0) (λ k l. monic.above k (omega arith)) ∙ ap (apply p) (fun_ext (λ m. get_or-drop g s m 0))
 
 -- below h + 1: below h, or h
 pub cleared_more : (s r : List ℕ) (h : ℕ) → Cleared s r h → apply r (λ m. get_or s (h + m) 0) ≡ 0 → Cleared s r (h + 1)

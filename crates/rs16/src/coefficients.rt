@@ -1,4 +1,4 @@
-// Polynomials over the field, as small arrays of coefficients by value, lowest first.
+// Polynomials over the field, as small arrays of coefficients, lowest first.
 ghost use Rattle.std.specs.Prelude.{◌≡◌, ℕ, ◌+◌, ◌<◌, ◌≤◌, ◌∷◌, bit_xor, length, slice_index};
 ghost use Rattle.rs16.specs.Field.{mul, pow, alpha};
 ghost use Rattle.rs16.specs.Polynomials.{eval, apply, slope};
@@ -24,14 +24,14 @@ pub(crate) fn evaluated_at(p: &Polynomial, e: usize) -> u8
     p.iter().rev().fold(0, |sum, c| *c ^ times_power(sum, e))
 }
 
-// The sum of each coefficient times a syndrome, from the first of them on.
+// The sum of the products of coefficient and syndrome at the same index.
 pub(crate) fn applied(p: &[u8], s: &[u8]) -> u8
     requires { length p.now ≤ length s.now }
     ensures { result ≡ apply p.now (λ m. slice_index s.now m) }
 {
     let mut sum = 0;
-    for (c, s) in p.iter().zip(s) {
-        sum ^= product(*c, *s);
+    for (c, syndrome) in p.iter().zip(s) {
+        sum ^= product(*c, *syndrome);
     }
     sum
 }

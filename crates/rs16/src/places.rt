@@ -1,5 +1,5 @@
 // The places of a word that a polynomial's roots name, and what is added to the octets there.
-// Kept: three functions ask that a power is below 255; a type for that would be unpacked in each to a number to multiply by.
+// Kept: five functions here and beside ask that a power is below 255; a type for that would be unpacked in each to a number to multiply by.
 ghost use Rattle.std.specs.Prelude.{◌≡◌, ℕ, ◌<◌, ◌≤◌, length, drop, slice_index};
 ghost use Rattle.octets.specs.Words.{word_length, max_reach};
 ghost use Rattle.rs16.specs.Field.{pow};

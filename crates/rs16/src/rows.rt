@@ -5,6 +5,8 @@ ghost use Rattle.rs16.specs.Division.{divide_step};
 use crate::multiples::MULTIPLES;
 
 // Octets 0 to 7 in `a`, the first the least significant, 8 to 15 in `b`, and so on.
+// Kept: four numbers by name, since `shifted` takes digits of each from the next, which an array would say by index. A cut to an octet
+// is `(x & 255) as u8`, the language's form for it.
 #[derive(Clone, Copy, Default)]
 pub(crate) struct Row {
     pub a: u64,

@@ -67,9 +67,5 @@ pub fn search_word(word: [u8; 255]) -> Option<Corrections>
     let evaluator = evaluator_polynomial(&locator, &syndromes);
     let corrections = corrections_at(&values, &locator, &evaluator, &word);
     let codeword = corrected_word(word, &corrections);
-    if all_zero(&residue_of(&codeword)) {
-        Some(corrections)
-    } else {
-        None
-    }
+    all_zero(&residue_of(&codeword)).then_some(corrections)
 }

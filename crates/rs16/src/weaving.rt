@@ -9,7 +9,7 @@ use code::{ShapeFault, check_shape};
 use std::array;
 
 // A word that is woven into a row of `depth` words.
-// Kept: the row stays beside it, with its length in a clause. It is lent once to be read and twice to be written, which would take two types.
+// Kept: the row stays beside it: as a field, lent to be read and lent to be written, it would take two types.
 #[derive(Clone, Copy)]
 pub(crate) struct Woven {
     depth: usize,

@@ -38,13 +38,12 @@ enum Reduced {
 }
 
 // The row made 0 on one window after the other by the pivots, up to the first where it is not 0 and there is no pivot.
-fn reduce(row: Polynomial, n: usize, pivots: &[Option<Polynomial>; 16], s: &[u8; 32]) -> Reduced
+fn reduce(mut row: Polynomial, n: usize, pivots: &[Option<Polynomial>; 16], s: &[u8; 32]) -> Reduced
     requires degree { n < 17 }
     requires monic { Monic max_reach n row }
     requires pivots { Pivots max_reach s.now n pivots.now }
     ensures { Reduces max_reach s.now n pivots.now result }
 {
-    let mut row = row;
     for (window, pivot) in pivots.iter().enumerate() {
         let value = applied(&row[..=n], &s[window..]);
         if value != 0 {

@@ -9,6 +9,7 @@ mod lengths;
 mod making;
 
 pub use fault::SettingsFault;
+pub use making::depth_is_allowed;
 
 // What both ends of a link agree on; each number is in its range.
 #[derive(Clone, Copy)]

@@ -1,8 +1,16 @@
 // Making a settings record, and reading its numbers back.
 ghost use Rattle.std.specs.Prelude.{◌≡◌};
+ghost use Rattle.settings.specs.Allowed.{depth_is_allowed};
 ghost use Rattle.settings.specs.Made.{Made};
 
 use crate::{Settings, SettingsFault};
+
+// Whether a row may have so many words.
+pub fn depth_is_allowed(depth: usize) -> bool
+    ensures { result ≡ depth_is_allowed depth }
+{
+    matches!(depth, 1..=5 | 8)
+}
 
 impl Settings {
     // The record with just these numbers, or the first check that fails: depth (1), rows (2), symbol (3),
@@ -16,7 +24,7 @@ impl Settings {
     ) -> Result<Settings, SettingsFault>
         ensures { Made depth rows symbol subframe_rows miss_limit result }
     {
-        if !matches!(depth, 1..=5 | 8) {
+        if !depth_is_allowed(depth) {
             return Err(SettingsFault::Depth);
         }
         if !(1..=4096).contains(&rows) {

@@ -33,6 +33,7 @@ impl Encoding {
 }
 
 // Feeds the syndromes of a row's words, each behind a 0, or a refusal's number and zeros.
+// Kept: the number 0 and the zeros, since the stored output is of these numbers.
 fn feed_syndromes(digest: &mut Digest, row: &[u8], depth: usize) {
     for word in 0..depth {
         let (number, syndromes) = match Rs16.syndromes(row, depth, word) {
@@ -46,7 +47,11 @@ fn feed_syndromes(digest: &mut Digest, row: &[u8], depth: usize) {
 
 // Encodes each word of a row, and answers how many were refused.
 pub(crate) fn encode_row(row: &mut [u8], depth: usize) -> usize {
-    (0..depth)
-        .filter(|word| Rs16.encode(row, depth, *word).is_err())
-        .count()
+    let mut refused: usize = 0;
+    for word in 0..depth {
+        if Rs16.encode(row, depth, word).is_err() {
+            refused = refused.saturating_add(1);
+        }
+    }
+    refused
 }

@@ -14,9 +14,9 @@ enum Places {
     Steps(u8),
 }
 
-impl From<u32> for Places {
-    // by the first two digits of a number: anywhere, in a burst, and in steps of 17 and of 16
-    fn from(number: u32) -> Places {
+impl Places {
+    // By the first two digits of a number: anywhere, in a burst, and in steps of 17 and of 16.
+    fn of(number: u32) -> Places {
         match number >> 30 {
             0 => Places::Anywhere,
             1 => Places::Steps(1),
@@ -24,9 +24,7 @@ impl From<u32> for Places {
             _ => Places::Steps(16),
         }
     }
-}
 
-impl Places {
     // The place of the octet that is altered as number i, by the generator's number for it.
     fn place(self, start: u8, i: u8, number: u32) -> usize {
         match self {
@@ -39,11 +37,11 @@ impl Places {
 // Alters up to 20 octets of a word. It takes a number for how their places lie, one for how many (without its last eight digits,
 // modulo 21), one for the start (the same, modulo 255), and one for each octet, whose first eight digits are added to it.
 fn alter_word(row: &mut [u8], depth: usize, word: usize, generator: &mut Generator) {
-    let places = Places::from(generator.number());
-    let many = ((generator.number() >> 8) % 21) as u8;
-    let start = ((generator.number() >> 8) % 255) as u8;
+    let places = Places::of(generator.next());
+    let many = ((generator.next() >> 8) % 21) as u8;
+    let start = ((generator.next() >> 8) % 255) as u8;
     for i in 0..many {
-        let number = generator.number();
+        let number = generator.next();
         let place = places.place(start, i, number);
         // Kept: the sums wrap, since a bound on the depth would ask more of callers.
         if let Some(octet) = row.get_mut(place.wrapping_mul(depth).wrapping_add(word)) {
@@ -96,6 +94,7 @@ impl Mending {
                 }
                 Err(fault) => {
                     self.refused = self.refused.saturating_add(1);
+                    // Kept: 256 and the number, since the stored output is of these numbers.
                     self.answers.feed(256 + fault.number() as u64);
                 }
             }

@@ -6,7 +6,7 @@ use Rattle.rs16.proofs.coefficients.applied.Goals as goal
 pub loop-c-preserved : goal.loop-c-preserved
 loop-c-preserved c =
     applied_more c.loop-c.c-iterator.a.rest.now c.loop-c.c-iterator.b.rest.now c.next.new.self.a.rest.now c.next.new.self.b.rest.now
-    c.in-Some.c.now c.in-Some.s.now c.loop-c.sum c.product-sum.result (apply c.args.p.now (λ m. slice_index c.args.s.now m))
+    c.in-Some.c.now c.in-Some.syndrome.now c.loop-c.sum c.product-sum.result (apply c.args.p.now (λ m. slice_index c.args.s.now m))
     c.in-Some.ensures.steps c.product-sum.ensures c.loop-c.invariant
 
 pub returns : goal.returns

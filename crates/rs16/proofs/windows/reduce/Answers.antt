@@ -8,17 +8,13 @@ use Rattle.rs16.proofs.windows.reduce.Goals.{then-value-ne0+in-Some, else-value-
 
 pub returns-in_default : goal.returns-in_default
 returns-in_default c =
-    let r : List ℕ = c.loop-window.row in
-    let s : List ℕ = c.args.s.now in
-    let size : length s ≡ 32 = search rules in
-    let value : c.applied-value.result ≡ apply r (λ m. slice_index s (c.loop-window.window + m)) =
-    c.applied-value.ensures ∙ on_window r s (c.args.n + 1) c.loop-window.window size (λ k l. c.loop-window.invariant.1.above k (omega arith)) in
+    let size : length c.args.s.now ≡ 32 = search rules in
     record {
       monic = c.loop-window.invariant.1;
       bound = omega arith;
       cleared = c.loop-window.invariant.2;
       free = c.in_default.is;
-      value = value;
+      value = c.applied-value.ensures ∙ on_window 16 c.args.n c.loop-window.row c.args.s.now c.loop-window.window size c.loop-window.invariant.1;
       octet = c.applied-value.type_inv;
       other = c.if-value-ne0.true;
     }
@@ -31,7 +27,7 @@ loop-window-preserved c =
     let r : List ℕ = c.loop-window.row in
     let size : length s ≡ 32 = search rules in
     let value : c.applied-value.result ≡ apply r (λ m. slice_index s (h + m)) =
-    c.applied-value.ensures ∙ on_window r s (n + 1) h size (λ k l. c.loop-window.invariant.1.above k (omega arith)) in
+    c.applied-value.ensures ∙ on_window 16 n r s h size c.loop-window.invariant.1 in
     elim c.if-value-ne0.branch [
       | then-value-ne0+in-Some w ↦
           let a : List ℕ = w.combined-row.result in

@@ -1,4 +1,5 @@
-use Rattle.std.proofs.Common.{ℕ, ◌<◌, List, slice_index, take, ap, ◌∙◌, subst, rules}
+use Rattle.std.proofs.Common.{ℕ, ◌<◌, List, slice_index, take, ap, ◌∙◌, rules}
+use Rattle.std.proofs.Math.Path.{subst₂}
 use Rattle.code.specs.Calls.{Encoded}
 use Rattle.rs16.specs.Codewords.{rs16}
 use Rattle.rs16.specs.Division.{checks}
@@ -16,6 +17,5 @@ returns c =
     (c.checks_of-checks.ensures ∙ ap (λ w. checks (take 223 w)) c.gathered-octets.ensures)
     c.store_checks.ensures.word c.store_checks.ensures.others in (
       c.in_ok-woven.ensures.passed,
-      subst (λ d. Encoded rs16 d c.args.word before after) c.in_ok-woven.ensures.same_depth
-          (subst (λ w. Encoded rs16 woven.depth w before after) c.in_ok-woven.ensures.same_word made),
+      subst₂ (λ d w. Encoded rs16 d w before after) c.in_ok-woven.ensures.same_depth c.in_ok-woven.ensures.same_word made,
     )

@@ -1,4 +1,5 @@
 use Rattle.std.proofs.Common.{ℕ, List, length, sym, ap, ◌∙◌, subst}
+use Rattle.std.proofs.Math.Path.{subst₂}
 use Rattle.code.specs.Calls.{Mended}
 use Rattle.code.specs.Meaning.{Reached}
 use Rattle.octets.specs.Words.{word_of}
@@ -24,6 +25,5 @@ returns c =
     c.store_corrections.ensures.others in (
       c.in_ok-woven.ensures.passed,
       subst (λ n. Mended rs16 c.args.depth c.args.word n before after) (sym c.len.ensures.value)
-          (subst (λ d. Mended rs16 d c.args.word (length found) before after) c.in_ok-woven.ensures.same_depth
-          (subst (λ w. Mended rs16 woven.depth w (length found) before after) c.in_ok-woven.ensures.same_word made)),
+          (subst₂ (λ d w. Mended rs16 d w (length found) before after) c.in_ok-woven.ensures.same_depth c.in_ok-woven.ensures.same_word made),
     )
