@@ -1,5 +1,5 @@
 -- What it says that no check of a receiver's call fails, and what the invariants of a receiver say.
-use Rattle.std.proofs.Common.{◌≡◌, ℕ, ◌*◌, ◌<◌, ◌≤◌, Bool, true, false, List, length, take, drop, None, Result, ◌∙◌, subst, ap₂, arith}
+use Rattle.std.proofs.Common.{◌≡◌, ℕ, ◌*◌, ◌<◌, ◌≤◌, Bool, true, false, List, length, take, drop, None, Result, subst, ap₂, arith}
 use Rattle.std.proofs.lemmas.Bool.{and_parts, eqb-true, eq-eqb, lt-ltb, ltb-true, ltb-false}
 use Rattle.settings.specs.declared.Settings.{Settings}
 use Rattle.settings.specs.Lengths.{row_length, block_length}
@@ -23,11 +23,11 @@ module _ (s : Settings) where
   next_accepted answered memory l h = rw (eq-eqb (length memory) (block_length s) l, lt-ltb answered s.rows h)
 
   -- a row mended as a part of the memory
-  pub part_mended : (code : CodeMeaning) (i size k : ℕ) (memory row : List ℕ) (count : ℕ) (valid : Result Unit RowFault)
-      → size ≡ row_length s → k ≡ size
-      → MendedRow s.depth code (take k (drop (i * size) memory)) row count valid → MendedRow s.depth code (row_at s i memory) row count valid
-  part_mended code i size k memory row count valid e h m =
-      let part : take k (drop (i * size) memory) ≡ row_at s i memory = ap₂ (λ a b. take a (drop (i * b) memory)) (h ∙ e) e in
+  pub part_mended : (code : CodeMeaning) (i start k : ℕ) (memory row : List ℕ) (count : ℕ) (valid : Result Unit RowFault)
+      → start ≡ i * row_length s → k ≡ row_length s
+      → MendedRow s.depth code (take k (drop start memory)) row count valid → MendedRow s.depth code (row_at s i memory) row count valid
+  part_mended code i start k memory row count valid e h m =
+      let part : take k (drop start memory) ≡ row_at s i memory = ap₂ (λ a b. take a (drop b memory)) h e in
       subst (λ xs. MendedRow s.depth code xs row count valid) part m
 
   -- ---- what an accepted call says of the state and of the memory

@@ -17,10 +17,10 @@ module _ (s : Settings) where
   length_with_row i row memory h e l = simp (length-append, length-take, length-drop) (omega (arith, row_top i h))
 
   -- a part that comes back with another row
-  pub row_put : (i size k : ℕ) (row memory : List ℕ) → size ≡ row_length s → k ≡ size → put_mid (i * size) k memory row ≡ with_row s i row memory
-  row_put i size k row memory e h =
+  pub row_put : (i start k : ℕ) (row memory : List ℕ) → start ≡ i * row_length s → k ≡ row_length s → put_mid start k memory row ≡ with_row s i row memory
+  row_put i start k row memory e h =
       let at : i * row_length s + k ≡ suc i * row_length s = omega arith in
-      ap (λ n. put_mid (i * n) k memory row) e
+      ap (λ n. put_mid n k memory row) e
       ∙ ap (λ xs. take (i * row_length s) memory ++ (row ++ xs)) (drop-drop k (i * row_length s) memory ∙ ap (λ n. drop n memory) at)
 
   -- ---- a row of the memory, and a row replaced

@@ -64,7 +64,7 @@ impl<M: Mapping> Line<M> {
     {
         let size = out.len().min(self.length() - place);
         let mut written = 0;
-        // Kept: how far a piece goes is known only once it is written, so nothing is there to iterate over.
+        // Kept: a `for` over the subframes would have to cut the first and the last piece.
         while written < size {
             written += self.write_piece(memory, place + written, &mut out[written..size]);
         }

@@ -2,7 +2,8 @@
 ghost use Rattle.std.specs.Prelude.{◌≡◌};
 ghost use Rattle.link.specs.Refusal.{making_number, put_number, draw_number};
 
-// An end can't be made. Kept: each call that refuses has an enum of its refusals, and this one refuses for one reason.
+// An end can't be made.
+// Kept: an enum of refusals like the others, of which making an end has one.
 #[derive(Clone, Copy, Debug, PartialEq, Eq)]
 pub enum MakingFault {
     // the mapping was made for another depth or other rows

@@ -52,9 +52,9 @@ fn block_end(settings: &Settings, lock: Lock, place: usize) -> Option<Stop>
     ends.then_some(Stop::Block { first: lock.fresh })
 }
 
-// Kept: two facts stand in the contracts here. That the memory is of a block's length: a type that holds it would hold a `&mut`,
-// and each contract would have to say how that comes back. That the mode fits: that is said of the settings, and no mode holds
-// them; the rules make modes of any numbers.
+// Kept: two facts stand in the contracts here. That the memory is of a block's length, as in `drawing`: the memory is the
+// caller's and is handed to each call, so no value of ours holds it. That the mode fits: that is said of the settings, and no
+// mode holds them; the rules make modes of any numbers.
 impl<M: Mapping> Line<M> {
     // Puts a data octet, plus its mask, to its source.
     fn store_octet(&self, place: usize, memory: &mut [u8], octet: u8)

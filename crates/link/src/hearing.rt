@@ -1,4 +1,4 @@
-// What one octet of a marker does to a receiver's mode, and which report it gives.
+// What one octet of a hunt or of a marker does to a receiver's mode, and which report it gives.
 ghost use Rattle.std.specs.Prelude.{◌≡◌, true, if◌then◌else◌, Some, None};
 ghost use Rattle.marker.specs.Reading.{count_read};
 ghost use Rattle.link.specs.ReceiverFits.{lock_is_fit};

@@ -1,6 +1,7 @@
 // The link: the line, and the two ends of it. Frames go in at the sender and line octets come out.
 #![tactic(auto)]
 
+mod block;
 mod chunking;
 mod drawing;
 mod encoding;

@@ -58,6 +58,7 @@ impl Window {
 }
 
 // What a locked receiver knows.
+// Kept: the settings come beside it to each method that needs them. A mode holds the lock and is Copy; the settings are the end's.
 #[derive(Clone, Copy)]
 pub struct Lock {
     // the count of the subframe that it is in, or whose marker it is in
@@ -170,6 +171,7 @@ pub enum Mode {
 pub struct ReceiverState {
     pub mode: Mode,
     // the rows of the block that are answered: all, where no frame waits
+    // Kept: an Option of the rows that wait would lose the number of the last one, which show needs behind the next that answered it.
     pub answered: usize,
     // the block is the first after a lock
     pub first: bool,

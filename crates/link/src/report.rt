@@ -18,5 +18,6 @@ pub struct Report {
     // in how many of its 56 digits the marker differs from the one expected
     pub digits: usize,
     // whether lock fell by this miss
+    // Kept: true only of a miss, yet no part of its kind: docs/FORMAT.md lists kind, count, digits and fell.
     pub fell: bool,
 }

@@ -9,7 +9,8 @@ use std::test::Fail;
 mod receiver;
 mod ride;
 
-// Kept: `vectors` has a digest and a generator of its own, since one crate for both would be one that the link stands on for its tests alone.
+// Kept: `vectors` has a digest and a generator of its own. One crate for both would be twenty lines, with contracts of their
+// own, for two users.
 
 // A digest's start and factor (FNV-1a, 64 digits).
 const START: u64 = 0xCBF2_9CE4_8422_2325;
@@ -59,7 +60,7 @@ struct Figures {
 impl Figures {
     // Draws a piece.
     fn draw<M: Mapping>(&mut self, sender: &mut Sender<Bare, M>, memory: &[u8], out: &mut [u8]) {
-        // Kept: no contract bounds these sums, so they wrap; they come nowhere near it.
+        // Kept: no contract bounds these sums, so they are wrapping ones; they never wrap.
         match sender.draw(memory, out) {
             Ok(taken) => {
                 self.digest = digest(self.digest, &out[..taken]);

@@ -5,6 +5,7 @@ ghost use Rattle.link.specs.Receiver.{MakesReceiver, Feeds, Nexts, Shows};
 ghost use Rattle.link.specs.ReceiverSteps.{gap_at, state_fed};
 ghost use Rattle.link.specs.FedOctets.{as_fed};
 
+use crate::block::row_start;
 use crate::encoding::frame_length;
 use crate::line::Line;
 use crate::mending::mend_row;
@@ -34,15 +35,15 @@ impl<C: Code + Drop, M: Mapping + Drop> Receiver<C, M> {
 
 impl ReceiverState {
     // Behind a feed: where a block ended, all its frames wait.
-    fn fed(self, fed: Feeding) -> ReceiverState
-        ensures { result ≡ state_fed self (as_fed fed []) }
+    fn fed(self, feeding: Feeding) -> ReceiverState
+        ensures { result ≡ state_fed self (as_fed feeding []) }
     {
-        let (answered, first) = match fed.stop {
+        let (answered, first) = match feeding.stop {
             Some(Stop::Block { first }) => (0, first),
             _ => (self.answered, self.first),
         };
         ReceiverState {
-            mode: fed.mode,
+            mode: feeding.mode,
             answered,
             first,
             after_next: false,
@@ -69,7 +70,7 @@ impl<C: Code, M: Mapping> Receiver<C, M> {
     ) -> Result<(usize, Option<Report>), FeedFault>
         ensures { Feeds C.Code.meaning M.Mapping.meaning self.old memory.old input.now result self.new memory.new }
     {
-        // Kept: each call of an end tests this itself. One helper with `?` would need a From for each of five faults.
+        // Kept: each call of an end tests this itself; a test with `ok_or` of each call's own fault is no shorter.
         if memory.len() != self.line.settings.block_length() {
             return Err(FeedFault::Memory);
         }
@@ -95,8 +96,8 @@ impl<C: Code, M: Mapping> Receiver<C, M> {
         if row >= settings.rows() {
             return Err(NextFault::NoneWaits);
         }
+        let start = row_start(&settings, row);
         let size = settings.row_length();
-        let start = row * size;
         let part = &mut memory[start..start + size];
         let mended = mend_row(&self.code, &settings, part);
         let gap = self.state.gap();
@@ -126,7 +127,7 @@ impl<C: Code, M: Mapping> Receiver<C, M> {
         if !self.state.after_next {
             return Err(ShowFault::NotNext);
         }
-        let start = (self.state.answered - 1) * settings.row_length();
+        let start = row_start(&settings, self.state.answered - 1);
         let size = frame_length(&self.code, &settings);
         Ok(&memory[start..start + size])
     }

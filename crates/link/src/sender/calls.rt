@@ -1,6 +1,7 @@
 // What a sender does.
 ghost use Rattle.link.specs.Sender.{Makes, Puts, Draws};
 
+use crate::block::row_start;
 use crate::encoding::{encode_frame, frame_length};
 use crate::line::Line;
 use crate::{DrawFault, MakingFault, PutFault, Sender, SenderState};
@@ -40,8 +41,8 @@ impl<C: Code, M: Mapping> Sender<C, M> {
         if row >= settings.rows() {
             return Err(PutFault::Full);
         }
+        let start = row_start(&settings, row);
         let size = settings.row_length();
-        let start = row * size;
         let part = &mut memory[start..start + size];
         encode_frame(&self.code, &settings, part, frame);
         self.state.put = row + 1;

@@ -48,139 +48,99 @@ fn alter_markers(line: &mut [u8; LINE], block: usize, generator: &mut Generator)
     }
 }
 
-// Puts the frames of a block, and draws its line in pieces.
-fn send<C: Code, M: Mapping>(
-    rt: &impl Abort,
-    sender: &mut Sender<C, M>,
-    frames: &[u8],
-    line: &mut [u8],
-    generator: &mut Generator,
-) -> Result<(), Fail> {
-    let mut memory = [0; MEMORY];
-    for (row, frame) in frames.chunks(FRAME).enumerate() {
-        assert!(rt; sender.put(&mut memory, frame)? == row);
+// Both ends, the receiver's memory, and what frames and damage are made by.
+#[derive(Drop)]
+struct Run<C: Code, M: Mapping> {
+    sender: Sender<C, M>,
+    receiver: Receiver<C, M>,
+    memory: [u8; MEMORY],
+    generator: Generator,
+}
+
+impl<C: Code, M: Mapping> Run<C, M> {
+    // Puts the frames of a block, and draws its line in pieces.
+    fn send(&mut self, rt: &impl Abort, frames: &[u8], line: &mut [u8]) -> Result<(), Fail> {
+        let mut memory = [0; MEMORY];
+        for (row, frame) in frames.chunks(FRAME).enumerate() {
+            assert!(rt; self.sender.put(&mut memory, frame)? == row);
+        }
+        let mut drawn = 0;
+        for _ in 0..LINE {
+            let from = drawn.min(line.len());
+            let size = (1 + self.generator.draw() % 400).min(line.len() - from);
+            if size > 0 {
+                drawn = from + self.sender.draw(&memory, &mut line[from..from + size])?;
+            }
+        }
+        assert!(rt; drawn == line.len());
+        Ok(())
     }
-    let mut drawn = 0;
-    for _ in 0..LINE {
-        let from = drawn.min(line.len());
-        let size = (1 + generator.draw() % 400).min(line.len() - from);
-        if size > 0 {
-            drawn = from + sender.draw(&memory, &mut line[from..from + size])?;
+
+    // Feeds octets in pieces of any size until all are taken or frames wait.
+    fn feed_on(&mut self, octets: &[u8]) {
+        let mut rest = octets;
+        for _ in 0..LINE {
+            let size = (self.generator.draw() % 300).min(rest.len());
+            if let Ok((taken, _)) = self.receiver.feed(&mut self.memory, &rest[..size]) {
+                rest = &rest[taken.min(size)..];
+            }
         }
     }
-    assert!(rt; drawn == line.len());
-    Ok(())
-}
 
-// Whether the next row is this one, valid, and shown as it was put.
-fn row_back<C: Code, M: Mapping>(
-    receiver: &mut Receiver<C, M>,
-    memory: &mut [u8],
-    row: usize,
-    frame: &[u8],
-) -> bool {
-    let Ok(answer) = receiver.next(memory) else {
-        return false;
-    };
-    answer.row == row && answer.valid.is_ok() && receiver.show(memory) == Ok(frame)
-}
-
-// Whether each row of a block came back so; all that wait are asked for.
-fn rows_back<C: Code, M: Mapping>(
-    receiver: &mut Receiver<C, M>,
-    memory: &mut [u8],
-    frames: &[u8],
-) -> bool {
-    let mut back = true;
-    for (row, frame) in frames.chunks(FRAME).enumerate() {
-        back &= row_back(receiver, memory, row, frame);
+    // Whether the next row is this one, valid, and shown as it was put.
+    fn row_back(&mut self, row: usize, frame: &[u8]) -> bool {
+        let Ok(answer) = self.receiver.next(&mut self.memory) else {
+            return false;
+        };
+        answer.row == row && answer.valid.is_ok() && self.receiver.show(&self.memory) == Ok(frame)
     }
-    back
-}
 
-// Feeds octets in pieces of any size until all are taken or frames wait.
-fn feed_on<C: Code, M: Mapping>(
-    receiver: &mut Receiver<C, M>,
-    memory: &mut [u8],
-    octets: &[u8],
-    generator: &mut Generator,
-) {
-    let mut rest = octets;
-    for _ in 0..LINE {
-        let size = (generator.draw() % 300).min(rest.len());
-        if let Ok((taken, _)) = receiver.feed(memory, &rest[..size]) {
-            rest = &rest[taken.min(size)..];
+    // Whether each row of a block came back so; all that wait are asked for.
+    fn rows_back(&mut self, frames: &[u8]) -> bool {
+        let mut back = true;
+        for (row, frame) in frames.chunks(FRAME).enumerate() {
+            back &= self.row_back(row, frame);
         }
+        back
     }
-}
 
-// Sends a block, alters these data places of its line and its markers, feeds the line from octet `from` on, and answers
-// whether each row came back.
-fn pass<C: Code, M: Mapping>(
-    rt: &impl Abort,
-    sender: &mut Sender<C, M>,
-    receiver: &mut Receiver<C, M>,
-    memory: &mut [u8],
-    block: usize,
-    altered: Range<usize>,
-    from: usize,
-    generator: &mut Generator,
-) -> Result<bool, Fail> {
-    let mut frames = [0; FRAMES];
-    let mut line = [0; LINE];
-    generator.fill(&mut frames);
-    send(rt, sender, &frames, &mut line, generator)?;
-    alter_data(&mut line, altered, generator);
-    alter_markers(&mut line, block, generator);
-    feed_on(receiver, memory, &line[from.min(LINE)..], generator);
-    Ok(rows_back(receiver, memory, &frames))
-}
-
-// Passes blocks with a fade of full length each; behind the first two, each frame comes back. Then one with a longer one.
-fn ride<C: Code, M: Mapping>(
-    rt: &impl Abort,
-    sender: &mut Sender<C, M>,
-    receiver: &mut Receiver<C, M>,
-    fade: usize,
-    taken_up: usize,
-) -> Result<(), Fail> {
-    let mut generator = Generator(0x0BAD_CAFE);
-    let mut memory = [0; MEMORY];
-    generator.fill(&mut memory);
-    let mut junk = [0; 300];
-    generator.fill(&mut junk);
-    let false_marker = [0x1A, 0xCF, 0xFC, 0x1D, 0, 0, 0];
-    feed_on(receiver, &mut memory, &junk, &mut generator);
-    feed_on(receiver, &mut memory, &false_marker, &mut generator);
-    for block in 0..12 {
-        let start = generator.draw() % MEMORY;
-        let altered = start..start.saturating_add(fade);
-        let from = if block == 0 { taken_up } else { 0 };
-        let back = pass(
-            rt,
-            sender,
-            receiver,
-            &mut memory,
-            block,
-            altered,
-            from,
-            &mut generator,
-        )?;
-        assert!(rt; block < 2 || back);
+    // Sends a block, alters these data places of its line and its markers, feeds the line from octet `from` on, and answers
+    // whether each row came back.
+    fn pass(
+        &mut self,
+        rt: &impl Abort,
+        block: usize,
+        altered: Range<usize>,
+        from: usize,
+    ) -> Result<bool, Fail> {
+        let mut frames = [0; FRAMES];
+        let mut line = [0; LINE];
+        self.generator.fill(&mut frames);
+        self.send(rt, &frames, &mut line)?;
+        alter_data(&mut line, altered, &mut self.generator);
+        alter_markers(&mut line, block, &mut self.generator);
+        self.feed_on(&line[from.min(LINE)..]);
+        Ok(self.rows_back(&frames))
     }
-    let longer = 0..fade.saturating_add(1);
-    let back = pass(
-        rt,
-        sender,
-        receiver,
-        &mut memory,
-        12,
-        longer,
-        0,
-        &mut generator,
-    )?;
-    assert!(rt; !back);
-    Ok(())
+
+    // Passes blocks with a fade of full length each; behind the first two, each frame comes back. Then one with a longer one.
+    fn ride(&mut self, rt: &impl Abort, fade: usize, taken_up: usize) -> Result<(), Fail> {
+        let mut junk = [0; 300];
+        self.generator.fill(&mut junk);
+        self.feed_on(&junk);
+        let false_marker = [0x1A, 0xCF, 0xFC, 0x1D, 0, 0, 0];
+        self.feed_on(&false_marker);
+        for block in 0..12 {
+            let start = self.generator.draw() % MEMORY;
+            let altered = start..start.saturating_add(fade);
+            let from = if block == 0 { taken_up } else { 0 };
+            let back = self.pass(rt, block, altered, from)?;
+            assert!(rt; block < 2 || back);
+        }
+        let longer = 0..fade.saturating_add(1);
+        assert!(rt; !self.pass(rt, 12, longer, 0)?);
+        Ok(())
+    }
 }
 
 // Rides on a link of rs16 with this mapping, taken up at this place of its line.
@@ -192,9 +152,16 @@ fn rides<M: Mapping + Drop>(
     taken_up: usize,
 ) -> Result<(), Fail> {
     let fade = sending.fade(Rs16.reach())?;
-    let mut sender = Sender::new(settings, Rs16, sending)?;
-    let mut receiver = Receiver::new(settings, Rs16, receiving)?;
-    ride(rt, &mut sender, &mut receiver, fade, taken_up)
+    let mut memory = [0; MEMORY];
+    let mut generator = Generator(0x0BAD_CAFE);
+    generator.fill(&mut memory);
+    let mut run = Run {
+        sender: Sender::new(settings, Rs16, sending)?,
+        receiver: Receiver::new(settings, Rs16, receiving)?,
+        memory,
+        generator,
+    };
+    run.ride(rt, fade, taken_up)
 }
 
 #[test]

@@ -1,14 +1,7 @@
-use Rattle.std.proofs.Common.{◌+◌, ◌*◌, ◌<◌, ◌≤◌, length, refl, ap, ◌∙◌, arith, rules}
+use Rattle.std.proofs.Common.{refl, ◌∙◌, arith}
 use Rattle.link.proofs.Tables.{put_accepted}
-use Rattle.link.proofs.Rows.{row_top, row_put}
+use Rattle.link.proofs.Rows.{row_put}
 use Rattle.link.proofs.sender.Sender.put.Goals as goal
-
-pub slice_bounds-part-end : goal.slice_bounds-part-end
-slice_bounds-part-end g c =
-    let low : c.args.self.now.state.put < c.args.self.now.line.settings.rows = omega arith in
-    let within : c.args.self.now.state.put * c.row_length-size.result + c.row_length-size.result ≤ length c.args.memory.now =
-    omega (arith, row_top c.args.self.now.line.settings c.args.self.now.state.put low, ap (λ n. c.args.self.now.state.put * n) c.row_length-size.ensures) in
-    search rules
 
 pub returns : goal.returns
 returns g c = record {
@@ -20,7 +13,7 @@ returns g c = record {
     row = c.encode_frame.new.row;
     encoded = c.encode_frame.ensures;
     answer = refl;
-    stored = row_put c.args.self.now.line.settings c.args.self.now.state.put c.row_length-size.result _ c.encode_frame.new.row c.args.memory.now c.row_length-size.ensures (omega arith);
+    stored = row_put c.args.self.now.line.settings c.args.self.now.state.put c.row_start-start.result _ c.encode_frame.new.row c.args.memory.now c.row_start-start.ensures.begins (omega (arith, c.row_length-size.ensures));
     after = refl;
   };
   kept = record { settings_kept = refl; code_kept = refl; mapping_kept = refl };
