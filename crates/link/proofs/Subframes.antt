@@ -101,7 +101,7 @@ module _ (s : Settings) (place p : ℕ) (ep : p ≡ period s) (low : place < lin
           ∙ sym (line_at_data s m memory (place / p) (place % p - 7 + i) count_below (omega arith))
           ∙ ap (λ n. get_or (block_line s m memory) n 0) on
 
-      pub piece_of_data : PieceWritten s m memory place taken before (part ++ drop taken before)
+      piece_of_data : PieceWritten s m memory place taken before (part ++ drop taken before)
       piece_of_data = record {
         some = λ room. omega (arith, offset_below);
         fits = omega arith;
@@ -112,3 +112,9 @@ module _ (s : Settings) (place p : ℕ) (ep : p ≡ period s) (low : place < lin
             (subst (λ n. FrontWritten (λ i. line_octet m memory (start + i)) n (take taken before) part) part_length data_written)
             (λ i l. octet_is i l ∙ ap (from (block_line s m memory) place) (sym (zero-add i))) (omega arith) (omega arith));
       }
+
+      pub piece_taken : (n : ℕ) → r ≡ Ok n → PieceWritten s m memory place n before (part ++ drop taken before)
+      piece_taken n e =
+          let whole = piece_answer in
+          let same : taken ≡ n = cc in
+          subst (λ k. PieceWritten s m memory place k before (part ++ drop taken before)) same piece_of_data

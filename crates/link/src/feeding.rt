@@ -67,6 +67,7 @@ impl<M: Mapping> Line<M> {
     }
 
     // One data octet of a subframe: of a block in progress it is stored, else passed over.
+    #[tactic(auto, using(crate::proofs::ModeFits::data_place))]
     fn read_data(&self, lock: Lock, place: usize, memory: &mut [u8], octet: u8) -> Mode
         requires memory_size { length memory.old ≡ block_length self.now.settings }
         requires fits { mode_is_fit self.now.settings (Reading lock place) ≡ true }

@@ -58,7 +58,7 @@ impl Window {
 }
 
 // What a locked receiver knows.
-// Kept: the settings come beside it to each method that needs them. A mode holds the lock and is Copy; the settings are the end's.
+// Kept: here and in `hearing` the settings come beside it. A mode holds the lock and is Copy; the settings are the end's.
 #[derive(Clone, Copy)]
 pub struct Lock {
     // the count of the subframe that it is in, or whose marker it is in

@@ -1,6 +1,5 @@
-use Rattle.std.proofs.Common.{◌≡◌, ◌++◌, drop, Ok, subst}
-use Rattle.link.specs.Pieces.{PieceWritten}
-use Rattle.link.proofs.Subframes.{piece_of_marker, piece_answer, piece_of_data}
+use Rattle.std.proofs.Common.{◌≡◌, Ok}
+use Rattle.link.proofs.Subframes.{piece_of_marker, piece_answer, piece_taken}
 use Rattle.link.proofs.line.Line.write_piece.Goals as goal
 
 pub returns-then-offset-lt7 : goal.returns-then-offset-lt7
@@ -20,15 +19,8 @@ unwrap-requires g c =
 
 pub returns : goal.returns
 returns g c =
-    let e : c.write_line.result ≡ Ok c.min-size.result =
-    piece_answer c.args.self.now.settings c.args.place c.period-period.result c.period-period.ensures c.requires.within
+    let told : c.write_line.result ≡ Ok c.unwrap.result = cc in
+    piece_taken c.args.self.now.settings c.args.place c.period-period.result c.period-period.ensures c.requires.within
     (g.M.Mapping.meaning c.args.self.now.mapping) c.args.memory.now c.subframe_data.result c.min-size.result c.args.out.now
     c.write_line.new.out c.write_line.result c.subframe_data.ensures c.args.self.now.fits c.requires.memory_size c.if-offset-lt7.false c.min-size.ensures
-    c.write_line.ensures in
-    let taken : c.min-size.result ≡ c.unwrap.result = cc in
-    subst (λ n. PieceWritten c.args.self.now.settings (g.M.Mapping.meaning c.args.self.now.mapping) c.args.memory.now c.args.place n
-    c.args.out.now (c.write_line.new.out ++ drop c.min-size.result c.args.out.now)) taken
-    (piece_of_data c.args.self.now.settings c.args.place c.period-period.result c.period-period.ensures c.requires.within
-    (g.M.Mapping.meaning c.args.self.now.mapping) c.args.memory.now c.subframe_data.result c.min-size.result c.args.out.now
-    c.write_line.new.out c.write_line.result c.subframe_data.ensures c.args.self.now.fits c.requires.memory_size c.if-offset-lt7.false c.min-size.ensures
-    c.write_line.ensures)
+    c.write_line.ensures c.unwrap.result told
