@@ -7,6 +7,13 @@ use Rattle.std.proofs.lemmas.Bool.{cases_Bool, cases_eq, ltb-true, lt-ltb, eq-eq
 use Rattle.mapping.specs.Answers.{place_answer}
 use Rattle.mapping.specs.Bulk.{block_refusal, stretch_refusal, stretch, line_octet, LineWritten, LineStored}
 use Rattle.mapping.specs.Meaning.{MappingMeaning, MappingLaws, block_size}
+use Rattle.settings.specs.declared.Settings.{Settings}
+use Rattle.settings.specs.Lengths.{block_length}
+use Rattle.mapping.specs.Interleaver.{interleaved, interleaved_source, step_of}
+use Rattle.mapping.specs.Walk.{At}
+use Rattle.mapping.specs.declared.interleaver.Interleaver.{Interleaver}
+use Rattle.mapping.specs.declared.walk.Walk.{Walk}
+use Rattle.mapping.proofs.Walking.{place_is}
 use Rattle.mapping.specs.declared.fault.MappingFault.{MappingFault}
 use Rattle.mapping.specs.declared.fault.MappingFault.TheVariants.{Place, Memory}
 
@@ -49,6 +56,14 @@ full_of m octets start depth rows deep many e =
 pub within : (m : MappingMeaning) (octets start room taken i : ℕ) → (stretch_refusal m octets start ≡ None) × (taken ≡ stretch m start room) → i < taken
     → start + i < block_size m
 within m octets start room taken i answer l = omega (arith, (not_refused m octets start answer.0).0, answer.1)
+
+-- at a place of a stretch: the memory has the block's length, the place lies below the block's end, and the walk stands at its source
+pub stands : (s : Settings) (i : Interleaver) (octets start room taken n : ℕ) (w : Walk)
+    → (stretch_refusal (interleaved s i) octets start ≡ None) × (taken ≡ stretch (interleaved s i) start room) → n < taken → At s (step_of i) (start + n) w
+    → (octets ≡ block_length s) × (start + n < block_length s) × (w.base + w.offset + w.octet ≡ interleaved_source s i (start + n))
+stands s i octets start room taken n w answer l at =
+    let below = within (interleaved s i) octets start room taken n answer l in
+    ((not_refused (interleaved s i) octets start answer.0).1, below, place_is s i (start + n) w below at)
 
 -- the first n places are written
 pub record Filled (f : ℕ → ℕ) (before after : List ℕ) (n : ℕ) : Type 0 where

@@ -187,6 +187,20 @@ module _ (s : Settings) (step p octet base first offset : ℕ) (here : Spot s st
 pub spot_of : (s : Settings) (step p : ℕ) (w : Walk) → At s step p w → Spot s step p w.octet w.base w.first w.offset
 spot_of s step p w at = record { octet_is = at.octet_is; base_is = at.base_is; first_is = at.first_is; offset_is = at.offset_is }
 
+-- a walk with the same lengths stands at a line place if its spot does
+pub walk_at : (s : Settings) (step p q : ℕ) (w v : Walk) → At s step p w → v.symbol ≡ w.symbol → v.row_length ≡ w.row_length → v.block ≡ w.block
+    → v.shift ≡ w.shift → Spot s step q v.octet v.base v.first v.offset → At s step q v
+walk_at s step p q w v at symbol row_length block shift n = record {
+  symbol_is = symbol ∙ at.symbol_is;
+  row_length_is = row_length ∙ at.row_length_is;
+  block_is = block ∙ at.block_is;
+  shift_is = shift ∙ at.shift_is;
+  octet_is = n.octet_is;
+  base_is = n.base_is;
+  first_is = n.first_is;
+  offset_is = n.offset_is;
+}
+
 -- a walk stands where the line place comes from
 pub place_is : (s : Settings) (i : Interleaver) (p : ℕ) (w : Walk) → p < block_length s → At s (step_of i) p w
     → w.base + w.offset + w.octet ≡ interleaved_source s i p

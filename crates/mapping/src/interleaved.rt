@@ -62,6 +62,7 @@ impl Interleaved {
     }
 
     // The memory place of an octet of the symbol in a column of a row.
+    #[tactic(auto, using(crate::specs::Bounds::symbol_place_fits))]
     fn symbol_place(&self, row: usize, column: usize, octet: usize) -> usize
         requires row { row < self.now.settings.rows }
         requires column { column < columns self.now.settings.depth self.now.settings.symbol }
@@ -122,6 +123,7 @@ impl Mapping for Interleaved {
         }
     }
 
+    #[tactic(auto, using(crate::specs::Bounds::fade_fits))]
     fn fade(&self, reach: usize) -> Result<usize, MappingFault> {
         if reach > MAX_REACH {
             return Err(MappingFault::Reach);

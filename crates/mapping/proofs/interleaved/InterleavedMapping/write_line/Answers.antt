@@ -1,12 +1,10 @@
 use Rattle.std.proofs.lemmas.List.{length-take-le}
-use Rattle.std.proofs.Common.{◌≡◌, ℕ, ◌+◌, ◌<◌, length, length-take, get_or, sym, ap, ◌∙◌, subst, add_assoc, arith}
+use Rattle.std.proofs.Common.{◌≡◌, ℕ, ◌+◌, length, length-take, get_or, sym, ap, ◌∙◌, subst, add_assoc, arith}
 use lib.Bits.{xor_zero_r}
-use Rattle.settings.specs.Lengths.{block_length}
 use Rattle.mapping.specs.Interleaver.{interleaved, step_of}
 use Rattle.mapping.specs.Walk.{At}
 use Rattle.mapping.specs.Laws.{interleaved_laws}
-use Rattle.mapping.proofs.Stretching.{not_refused, within, filled_more, written_front}
-use Rattle.mapping.proofs.Walking.{place_is}
+use Rattle.mapping.proofs.Stretching.{not_refused, stands, filled_more, written_front}
 use Rattle.mapping.proofs.interleaved.InterleavedMapping.write_line.Goals as goal
 
 pub bounds-memory-place : goal.bounds-memory-place
@@ -14,10 +12,8 @@ bounds-memory-place c =
     let s = c.args.self.now.settings in
     let i = c.args.self.now.interleaver in
     let p = c.args.start + c.loop-octet.octet-index in
-    let full : length c.args.memory.now ≡ block_length s = (not_refused (interleaved s i) _ c.args.start c.in_ok-taken.ensures.0).1 in
-    let below : p < block_length s = within (interleaved s i) _ c.args.start _ c.in_ok-taken.taken c.loop-octet.octet-index c.in_ok-taken.ensures (omega (arith, length-take c.in_ok-taken.taken c.args.out.now)) in
-    let from = place_is s i p c.loop-octet.walk below c.loop-octet.invariant.1 in
-    omega (arith, full, from, c.place.ensures, (interleaved_laws s i).inside p below)
+    let here = stands s i _ c.args.start _ c.in_ok-taken.taken c.loop-octet.octet-index c.loop-octet.walk c.in_ok-taken.ensures (omega (arith, length-take c.in_ok-taken.taken c.args.out.now)) c.loop-octet.invariant.1 in
+    omega (arith, here.0, here.2, c.place.ensures, (interleaved_laws s i).inside p here.1)
 
 pub loop-octet-preserved : goal.loop-octet-preserved
 loop-octet-preserved c =
@@ -25,9 +21,8 @@ loop-octet-preserved c =
     let i = c.args.self.now.interleaver in
     let step = step_of i in
     let p = c.args.start + c.loop-octet.octet-index in
-    let full : length c.args.memory.now ≡ block_length s = (not_refused (interleaved s i) _ c.args.start c.in_ok-taken.ensures.0).1 in
-    let below : p < block_length s = within (interleaved s i) _ c.args.start _ c.in_ok-taken.taken c.loop-octet.octet-index c.in_ok-taken.ensures (omega (arith, length-take c.in_ok-taken.taken c.args.out.now)) in
-    let from = c.place.ensures ∙ place_is s i p c.loop-octet.walk below c.loop-octet.invariant.1 in
+    let here = stands s i _ c.args.start _ c.in_ok-taken.taken c.loop-octet.octet-index c.loop-octet.walk c.in_ok-taken.ensures (omega (arith, length-take c.in_ok-taken.taken c.args.out.now)) c.loop-octet.invariant.1 in
+    let from = c.place.ensures ∙ here.2 in
     let On : ℕ → Type 0 = λ p. At s step p c.advance.new.self in (
       filled_more _ _ c.loop-octet.octet-items c.loop-octet.octet-index _ c.loop-octet.invariant.0 (omega arith)
           (ap (λ q. get_or c.args.memory.now q 0) from ∙ sym (xor_zero_r _)),

@@ -1,6 +1,6 @@
-use Rattle.std.proofs.Common.{◌≡◌, ℕ, ◌+◌, ◌-◌, ◌<◌, ◌≤◌, sym, ap, ◌∙◌, subst, arith}
+use Rattle.std.proofs.Common.{◌≡◌, refl, ℕ, ◌+◌, ◌-◌, ◌<◌, ◌≤◌, sym, subst, arith}
 use Rattle.settings.specs.Lengths.{row_length, block_length}
-use Rattle.mapping.proofs.Walking.{Spot, spot_of, to_octet, to_row, to_row_round, to_round, to_begin}
+use Rattle.mapping.proofs.Walking.{Spot, spot_of, walk_at, to_octet, to_row, to_row_round, to_round, to_begin}
 use Rattle.mapping.proofs.walk.Walk.advance.Goals as goal
 use Rattle.mapping.proofs.walk.Walk.advance.Goals.{then-next-self, else-next-self, then-next-self-2, else-next-self-2}
 
@@ -8,16 +8,7 @@ pub returns-then-self : goal.returns-then-self
 returns-then-self c s step p at =
     let w = c.args.self.now in
     let n = to_octet s step p w.octet w.base w.first w.offset (spot_of s step p w at) (omega (arith, at.symbol_is)) in
-    record {
-      symbol_is = at.symbol_is;
-      row_length_is = at.row_length_is;
-      block_is = at.block_is;
-      shift_is = at.shift_is;
-      octet_is = n.octet_is;
-      base_is = n.base_is;
-      first_is = n.first_is;
-      offset_is = n.offset_is;
-    }
+    walk_at s step p (p + 1) w _ at refl refl refl refl n
 
 pub returns-then-self-2 : goal.returns-then-self-2
 returns-then-self-2 c s step p at =
@@ -35,16 +26,8 @@ returns-then-self-2 c s step p at =
           let is : w.offset + w.shift - row_length s ≡ c.if-next-self.self = omega (arith, at.row_length_is) in
           subst On is (to_row_round s step p w.octet w.base w.first w.offset here w.shift at.shift_is last more far)
     ] in
-    record {
-      symbol_is = at.symbol_is;
-      row_length_is = at.row_length_is;
-      block_is = at.block_is;
-      shift_is = at.shift_is;
-      octet_is = n.octet_is;
-      base_is = ap (λ R. w.base + R) at.row_length_is ∙ n.base_is;
-      first_is = n.first_is;
-      offset_is = n.offset_is;
-    }
+    let Wide : ℕ → Type 0 = λ R. Spot s step (p + 1) 0 (w.base + R) w.first c.if-next-self.self in
+    walk_at s step p (p + 1) w _ at refl refl refl refl (subst Wide (sym at.row_length_is) n)
 
 pub returns : goal.returns
 returns c s step p at =
@@ -62,13 +45,4 @@ returns c s step p at =
           let far : row_length s ≤ w.first + s.symbol = omega (arith, at.row_length_is, at.symbol_is) in
           subst On (sym v.first-is) (to_begin s step p w.octet w.base w.first w.offset here last end far)
     ] in
-    record {
-      symbol_is = at.symbol_is;
-      row_length_is = at.row_length_is;
-      block_is = at.block_is;
-      shift_is = at.shift_is;
-      octet_is = n.octet_is;
-      base_is = n.base_is;
-      first_is = n.first_is;
-      offset_is = n.offset_is;
-    }
+    walk_at s step p (p + 1) w _ at refl refl refl refl n
