@@ -5,6 +5,8 @@ use crate::generator::Generator;
 use code::Code;
 use rs16::Rs16;
 
+// What encoding rows came to.
+// Kept: here and in `mending` a row and its depth come side by side, as the calls of `Code` take them.
 #[derive(Clone, Copy)]
 pub(crate) struct Encoding {
     pub syndromes: Digest,
