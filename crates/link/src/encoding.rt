@@ -6,8 +6,8 @@ ghost use Rattle.link.specs.Frames.{EncodedFrame, frame_length};
 use code::Code;
 use settings::Settings;
 
-// Kept: here and in `mending` the code and the settings come beside each other. The settings are the line's and the code is the
-// end's, so a struct of both would hold the settings twice, or be made anew for each call and borrow both.
+// Kept: here and in `mending` the code and the settings come beside each other. With the code in it, a `Line` would have a part
+// that its other calls do not use; a struct of both would hold the settings twice, or be made anew for each call and borrow both.
 
 // The octets of a frame: the information of the words of a row.
 pub(crate) fn frame_length<C: Code>(code: &C, settings: &Settings) -> usize

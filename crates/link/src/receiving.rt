@@ -58,7 +58,8 @@ impl Window {
 }
 
 // What a locked receiver knows.
-// Kept: here and in `hearing` the settings come beside it. A mode holds the lock and is Copy; the settings are the end's.
+// Kept: here and in `hearing` the settings come beside it. A lock that held them would hold them a second time in every mode,
+// beside those of the end, and a clause would have to say that they are the same.
 #[derive(Clone, Copy)]
 pub struct Lock {
     // the count of the subframe that it is in, or whose marker it is in

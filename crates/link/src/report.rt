@@ -18,6 +18,6 @@ pub struct Report {
     // in how many of its 56 digits the marker differs from the one expected
     pub digits: usize,
     // whether lock fell by this miss
-    // Kept: true only of a miss, yet no part of its kind: docs/FORMAT.md lists kind, count, digits and fell.
+    // Kept: true only of a miss; as a part of its kind it would take a pattern wherever it is asked whether lock fell.
     pub fell: bool,
 }

@@ -60,7 +60,7 @@ struct Figures {
 impl Figures {
     // Draws a piece.
     fn draw<M: Mapping>(&mut self, sender: &mut Sender<Bare, M>, memory: &[u8], out: &mut [u8]) {
-        // Kept: no contract bounds these sums, so they are wrapping ones; they never wrap.
+        // No contract bounds these sums, so they are wrapping ones; they never wrap.
         match sender.draw(memory, out) {
             Ok(taken) => {
                 self.digest = digest(self.digest, &out[..taken]);

@@ -6,7 +6,7 @@ use code::Code;
 use rs16::Rs16;
 
 // What encoding rows came to.
-// Kept: here and in `mending` a row and its depth come side by side, as the calls of `Code` take them.
+// Kept: here and in `mending` a row and its depth come side by side: a struct of both would be taken apart at each call of `Code`.
 #[derive(Clone, Copy)]
 pub(crate) struct Encoding {
     pub syndromes: Digest,

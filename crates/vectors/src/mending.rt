@@ -43,7 +43,7 @@ fn alter_word(row: &mut [u8], depth: usize, word: usize, generator: &mut Generat
     for i in 0..many {
         let number = generator.next();
         let place = places.place(start, i, number);
-        // Kept: the sums wrap, since a bound on the depth would ask more of callers.
+        // The sums wrap, since nothing here bounds the depth.
         if let Some(octet) = row.get_mut(place.wrapping_mul(depth).wrapping_add(word)) {
             *octet ^= (number >> 24) as u8;
         }

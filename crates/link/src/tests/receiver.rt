@@ -28,6 +28,7 @@ impl Log {
             self.see(0);
             return;
         };
+        // Kept: numbers for kinds here, and 0 for what is valid below, since the digests are of these numbers.
         self.see(match report.kind {
             Kind::Gained => 1,
             Kind::Hit => 2,
