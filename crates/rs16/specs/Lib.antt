@@ -8,6 +8,7 @@ pub mod Bench
 pub mod Polynomials
 pub mod Mending
 pub mod Elimination
+pub mod Slots
 pub mod Searching
 pub mod Remainders
 pub mod Below

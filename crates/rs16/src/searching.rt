@@ -21,9 +21,9 @@ fn all_zero(octets: &[u8; 32]) -> bool
 // The corrections at the powers whose value is 0; one that would change nothing is left out.
 fn corrections_at(values: &[u8; 255], p: &Polynomial, o: &[u8; 16], word: &[u8; 255]) -> Corrections
     requires { length (chosen (zero_at values.now) word_length) ≤ max_reach }
-    ensures right { Corrects word.now result.items }
-    ensures made { corrected result.items word.now ≡ changed (zero_at values.now) p.now o.now word.now }
-    ensures few { length result.items ≤ max_reach }
+    ensures right { Corrects word.now result }
+    ensures made { corrected result word.now ≡ changed (zero_at values.now) p.now o.now word.now }
+    ensures few { length result ≤ max_reach }
 {
     let mut corrections = Corrections::new();
     for (place, octet) in word.iter().enumerate() {

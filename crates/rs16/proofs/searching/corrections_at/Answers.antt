@@ -1,4 +1,4 @@
-use Rattle.std.proofs.Common.{◌≡◌, ℕ, ◌+◌, ◌-◌, ◌<◌, true, false, List, length, get_or, sym, refl, ap, ◌∙◌, subst, arith, rules}
+use Rattle.std.proofs.Common.{◌≡◌, ℕ, ◌+◌, ◌-◌, ◌<◌, true, false, List, length, get_or, sym, refl, ◌∙◌, subst, arith, rules}
 use Rattle.std.proofs.lemmas.Bool.{eq-eqb, ne_eqb}
 use Rattle.rs16.specs.Field.{◌⊕◌}
 use Rattle.rs16.specs.Mending.{zero_at}
@@ -14,7 +14,7 @@ loop-place-preserved c =
     let o : List ℕ = c.args.o.now in
     let w : List ℕ = c.args.word.now in
     let j : ℕ = c.loop-place.place in
-    let cs : List Correction = c.loop-place.corrections.items in
+    let cs : List Correction = c.loop-place.corrections in
     let size : length w ≡ 255 = search rules in
     let low : j < 255 = omega arith in
     let h : Finding (zero_at v) p o w j cs = c.loop-place.invariant in
@@ -23,16 +23,16 @@ loop-place-preserved c =
           let here : zero_at v (254 - j) ≡ true = eq-eqb (get_or v (254 - j) 0) 0 way.if-values-place-eq0.true in
           let x : ℕ = way.change_at-change.result in
           let it : Correction = record { place = j; octet = get_or w j 0 ⊕ x } in
-          subst (λ ds. Finding (zero_at v) p o w (j + 1) ds) (sym (ap (λ found. found.items) way.corrections-is ∙ way.push.ensures.items))
+          subst (λ ds. Finding (zero_at v) p o w (j + 1) ds) (sym (way.corrections-is ∙ way.push.ensures))
           (finding_put (zero_at v) p o w size j cs low h here it x refl way.change_at-change.ensures way.if-change-ne0.true refl)
       | then-values-place-eq0+else-change-ne0 way ↦
           let here : zero_at v (254 - j) ≡ true = eq-eqb (get_or v (254 - j) 0) 0 way.if-values-place-eq0.true in
-          subst (λ found. Finding (zero_at v) p o w (j + 1) found.items) (sym way.corrections-is)
+          subst (λ found. Finding (zero_at v) p o w (j + 1) found) (sym way.corrections-is)
           (finding_kept (zero_at v) p o w size j cs low h
           (kept_unchanged (zero_at v) p o w size j cs low h here (sym way.change_at-change.ensures ∙ way.if-change-ne0.false)))
       | else-values-place-eq0 way ↦
           let gone : zero_at v (254 - j) ≡ false = ne_eqb (get_or v (254 - j) 0) 0 way.if-values-place-eq0.false in
-          subst (λ found. Finding (zero_at v) p o w (j + 1) found.items) (sym way.corrections-is)
+          subst (λ found. Finding (zero_at v) p o w (j + 1) found) (sym way.corrections-is)
           (finding_kept (zero_at v) p o w size j cs low h (kept_untested (zero_at v) p o w size j cs low h gone))
     ]
 
@@ -40,4 +40,4 @@ pub returns-clause-made : goal.returns-clause-made
 returns-clause-made c =
     let size : length c.args.word.now ≡ 255 = search rules in
     let end : c.loop-place.place ≡ 255 = omega arith in
-    finding_all (zero_at c.args.values.now) c.args.p.now c.args.o.now c.args.word.now c.loop-place.place c.loop-place.corrections.items size end c.loop-place.invariant
+    finding_all (zero_at c.args.values.now) c.args.p.now c.args.o.now c.args.word.now c.loop-place.place c.loop-place.corrections size end c.loop-place.invariant

@@ -1,6 +1,5 @@
 use Rattle.std.proofs.Common.{◌≡◌, ℕ, ◌<◌, ◌≤◌, Bool, true, false, List, length, get_or, drop, Some, None, sym, refl, ap, ◌∙◌, subst, arith, rules}
 use Rattle.std.specs.Bool.{then_some}
-use Rattle.arrayvec.specs.ArrayVec.{ArrayVec}
 use Rattle.octets.specs.Octets.{Octets, altered}
 use Rattle.octets.specs.Words.{word_length}
 use Rattle.code.specs.Meaning.{Reached}
@@ -15,7 +14,7 @@ use Rattle.rs16.proofs.Correcting.{counted, no_corrections}
 use Rattle.rs16.proofs.Deciding.{Nought, syndromes_of, clean, good, bad}
 use Rattle.rs16.proofs.searching.search_word.Goals as goal
 
-decided : (w : List ℕ) (passes : Bool) (found : ArrayVec Correction) → (passes ≡ true → Searches w (Some found)) → (passes ≡ false → Searches w None)
+decided : (w : List ℕ) (passes : Bool) (found : List Correction) → (passes ≡ true → Searches w (Some found)) → (passes ≡ false → Searches w None)
     → Searches w (then_some passes found)
 decided w true found there gone = there refl
 decided w false found there gone = gone refl
@@ -43,7 +42,7 @@ returns c =
     let v : List ℕ = c.values_of-values.result in
     let p : List ℕ = c.locator_polynomial-locator.result in
     let s : List ℕ = c.syndromes_from-syndromes.result in
-    let found : List Correction = c.corrections_at-corrections.result.items in
+    let found : List Correction = c.corrections_at-corrections.result in
     let right = c.corrections_at-corrections.ensures.right in
     let new : List ℕ = corrected found w in
     let size : length w ≡ word_length = search rules in
@@ -56,7 +55,7 @@ returns c =
     let made : new ≡ changed (zero_at v) p (evaluator (drop 1 p) s) w =
     c.corrections_at-corrections.ensures.made ∙ ap (λ o. changed (zero_at v) p o w) c.evaluator_polynomial-evaluator.ensures in
     let checked : c.residue_of.result ≡ residue new =
-    c.residue_of.ensures ∙ ap residue (c.corrected_word-codeword.ensures ∙ ap (λ cs. corrected cs w) c.deref.ensures.0) in
+    c.residue_of.ensures ∙ ap residue (c.corrected_word-codeword.ensures ∙ ap (λ cs. corrected cs w) c.deref.ensures) in
     let near : altered word_length w new ≤ 16 = omega (arith, counted w found size right) in
     subst (Searches w) (sym c.then_some.ensures)
     (decided w c.all_zero-2.result c.corrections_at-corrections.result

@@ -16,14 +16,14 @@ returns c =
     let before : List ℕ = c.args.row.now in
     let after : List ℕ = c.store_corrections.new.row in
     let word : List ℕ = c.gathered.result in
-    let found : List Correction = c.in_ok-corrections.corrections.items in
+    let found : List Correction = c.in_ok-corrections.corrections in
     let searched : Corrects word found × Reached rs16 word (corrected found word) =
     subst (Searches word) c.in_ok-corrections.ensures.ok_part c.search_word.ensures in
     let made : Mended rs16 woven.depth woven.word (length found) before after =
     mended woven.depth woven.word before after word found c.gathered.ensures searched.0 searched.1
-    (c.store_corrections.ensures.word ∙ ap (λ cs. corrected cs (word_of woven.depth woven.word before)) c.deref.ensures.0)
+    (c.store_corrections.ensures.word ∙ ap (λ cs. corrected cs (word_of woven.depth woven.word before)) c.deref.ensures)
     c.store_corrections.ensures.others in (
       c.in_ok-woven.ensures.passed,
-      subst (λ n. Mended rs16 c.args.depth c.args.word n before after) (sym c.len.ensures.value)
+      subst (λ n. Mended rs16 c.args.depth c.args.word n before after) (sym c.len.ensures)
           (subst₂ (λ d w. Mended rs16 d w (length found) before after) c.in_ok-woven.ensures.same_depth c.in_ok-woven.ensures.same_word made),
     )
