@@ -2,7 +2,9 @@
 ghost use Rattle.std.specs.Prelude.{◌≡◌, ◌<◌};
 ghost use Rattle.octets.specs.Counting.{tabulate};
 ghost use Rattle.code.specs.Meaning.{SameMeaning};
-ghost use Rattle.rs16.specs.Calls.{SyndromesGiven};
+ghost use Rattle.octets.specs.Words.{word_of};
+ghost use Rattle.code.specs.Refusal.{shape_refusal};
+ghost use Rattle.rs16.specs.Calls.{SyndromesFound, SyndromesGiven};
 ghost use Rattle.rs16.specs.Codewords.{rs16, root, value};
 ghost use Rattle.rs16.specs.Remainders;
 
@@ -52,11 +54,27 @@ pub fn rs16_means_rs16(code: &Rs16)
 
 impl Rs16 {
     // The thirty-two syndromes of a word of the row. Refused as encode is.
-    pub fn syndromes(&self, row: &[u8], depth: usize, word: usize) -> Result<[u8; 32], ShapeFault>
-        ensures { SyndromesGiven depth word row.now result }
+    pub fn find_syndromes(
+        &self,
+        row: &[u8],
+        depth: usize,
+        word: usize,
+    ) -> Result<[u8; 32], ShapeFault>
+        ensures { SyndromesFound depth word row.now result }
     {
         let octets = Woven::checked(row, depth, word)?.gathered(row);
         Ok(syndromes_from(&residue_of(&octets)))
+    }
+
+    // The same as one value: the syndromes beside 0, or zeros beside the refusal's number.
+    // Kept: a number, since that is how a caller who compares many words takes them.
+    pub fn syndromes(&self, row: &[u8], depth: usize, word: usize) -> (usize, [u8; 32])
+        ensures { SyndromesGiven (shape_refusal depth word row.now) (word_of depth word row.now) result.0 result.1 }
+    {
+        match self.find_syndromes(row, depth, word) {
+            Ok(syndromes) => (0, syndromes),
+            Err(fault) => (fault.number(), [0; 32]),
+        }
     }
 }
 

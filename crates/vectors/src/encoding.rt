@@ -34,14 +34,10 @@ impl Encoding {
     }
 }
 
-// Feeds the syndromes of a row's words, each behind a 0, or a refusal's number and zeros.
-// Kept: the number 0 and the zeros, since the stored output is of these numbers.
+// Feeds the syndromes of a row's words, each behind the number beside them: 0, or a refusal's.
 fn feed_syndromes(digest: &mut Digest, row: &[u8], depth: usize) {
     for word in 0..depth {
-        let (number, syndromes) = match Rs16.syndromes(row, depth, word) {
-            Ok(syndromes) => (0, syndromes),
-            Err(fault) => (fault.number(), [0; 32]),
-        };
+        let (number, syndromes) = Rs16.syndromes(row, depth, word);
         digest.feed(number as u64);
         digest.feed_octets(&syndromes);
     }

@@ -5,7 +5,7 @@ use Rattle.octets.proofs.Words.{word_size}
 use Rattle.rs16.specs.Codewords.{root, syndrome, value}
 use Rattle.rs16.specs.Division.{residue}
 use Rattle.rs16.proofs.Residues.{residue_syndromes}
-use Rattle.rs16.proofs.calls.Rs16.syndromes.Goals as goal
+use Rattle.rs16.proofs.calls.Rs16.find_syndromes.Goals as goal
 
 pub returns : goal.returns
 returns c =
