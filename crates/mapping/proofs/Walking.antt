@@ -201,8 +201,12 @@ walk_at s step p q w v at symbol row_length block shift n = record {
   offset_is = n.offset_is;
 }
 
--- a walk stands where the line place comes from
+-- a walk with a step stands where the line place comes from
+pub stepped_place_is : (s : Settings) (step p : ℕ) (w : Walk) → At s step p w → w.base + w.offset + w.octet ≡ stepped_source s.depth s.rows s.symbol step p
+unfolding stepped_source
+stepped_place_is s step p w at = ap₂ (λ a b. a + b) (ap₂ (λ a b. a + b) at.base_is at.offset_is) at.octet_is
+
+-- and so does one of an interleaver, at a place of the block
 pub place_is : (s : Settings) (i : Interleaver) (p : ℕ) (w : Walk) → p < block_length s → At s (step_of i) p w
     → w.base + w.offset + w.octet ≡ interleaved_source s i p
-unfolding stepped_source
-place_is s i p w h at = ap₂ (λ a b. a + b) (ap₂ (λ a b. a + b) at.base_is at.offset_is) at.octet_is ∙ sym (interleaved_source_is s i p h)
+place_is s i p w h at = stepped_place_is s (step_of i) p w at ∙ sym (interleaved_source_is s i p h)

@@ -1,11 +1,12 @@
 // The block and the stepped mapping.
 ghost use Rattle.std.specs.Prelude.{◌≡◌, ◌<◌, true, false, MatchResult};
-ghost use Rattle.mapping.specs.Bulk.{StretchAnswer};
+ghost use Rattle.mapping.specs.Answers.{source_answer};
+ghost use Rattle.mapping.specs.Bulk.{StretchAnswer, WriteAnswer, StoreAnswer};
 ghost use Rattle.mapping.specs.Interleaver.{block_of, stepped_of, columns, symbol_place, interleaved};
 ghost use Rattle.mapping.specs.Refusal.{step_is_allowed, interleaver_is_allowed};
 ghost use Rattle.mapping.specs.Laws.{interleaved_laws};
 
-use crate::mapping::stretch;
+use crate::mapping::stretch_of;
 use crate::walk::Walk;
 use crate::{Interleaver, Mapping, MappingFault};
 use settings::Settings;
@@ -76,16 +77,66 @@ impl Interleaved {
     fn stretch(&self, octets: usize, start: usize, room: usize) -> Result<usize, MappingFault>
         ensures { StretchAnswer (interleaved self.now.settings self.now.interleaver) octets start room result }
     {
-        stretch(
-            self.settings.depth(),
-            self.settings.rows(),
-            octets,
-            start,
-            room,
-        )
+        stretch_of(self.settings.block_length(), octets, start, room)
+    }
+
+    // From which memory place line place p comes, or the refusal.
+    fn source_of(&self, p: usize) -> Result<usize, MappingFault>
+        ensures { result ≡ source_answer (interleaved self.now.settings self.now.interleaver) p }
+    {
+        if p >= self.settings.block_length() {
+            return Err(MappingFault::Place);
+        }
+        let symbol = self.settings.symbol();
+        let rows = self.settings.rows();
+        let row = p / symbol % rows;
+        let turn = p / symbol / rows;
+        let column = match self.interleaver {
+            Interleaver::Block => turn,
+            Interleaver::Stepped(step) => (turn + row * step)
+                % (self.settings.row_length() / symbol),
+        };
+        Ok(self.symbol_place(row, column, p % symbol))
+    }
+
+    // Writes a stretch of the line, as `Mapping::write_line` says.
+    fn write_stretch(
+        &self,
+        memory: &[u8],
+        start: usize,
+        out: &mut [u8],
+    ) -> Result<usize, MappingFault>
+        ensures { WriteAnswer (interleaved self.now.settings self.now.interleaver) memory.now start out.old out.new result }
+    {
+        let taken = self.stretch(memory.len(), start, out.len())?;
+        let mut walk = Walk::along(self, start);
+        for octet in &mut out[..taken] {
+            *octet = memory[walk.place()];
+            walk.advance();
+        }
+        Ok(taken)
+    }
+
+    // Stores a stretch of the line, as `Mapping::store_line` says.
+    fn store_stretch(
+        &self,
+        memory: &mut [u8],
+        start: usize,
+        line: &[u8],
+    ) -> Result<usize, MappingFault>
+        ensures { StoreAnswer (interleaved self.now.settings self.now.interleaver) line.now start memory.old memory.new result }
+    {
+        let taken = self.stretch(memory.len(), start, line.len())?;
+        let mut walk = Walk::along(self, start);
+        for octet in &line[..taken] {
+            memory[walk.place()] = *octet;
+            walk.advance();
+        }
+        Ok(taken)
     }
 }
 
+// Thin over the calls above, so that a wrong argument here is refused for what it answers.
 impl Mapping for Interleaved {
     ghost meaning = { λ x. interleaved x.settings x.interleaver };
 
@@ -100,19 +151,7 @@ impl Mapping for Interleaved {
     }
 
     fn source(&self, p: usize) -> Result<usize, MappingFault> {
-        if p >= self.settings.block_length() {
-            return Err(MappingFault::Place);
-        }
-        let symbol = self.settings.symbol();
-        let rows = self.settings.rows();
-        let row = p / symbol % rows;
-        let turn = p / symbol / rows;
-        let column = match self.interleaver {
-            Interleaver::Block => turn,
-            Interleaver::Stepped(step) => (turn + row * step)
-                % (self.settings.row_length() / symbol),
-        };
-        Ok(self.symbol_place(row, column, p % symbol))
+        self.source_of(p)
     }
 
     fn mask(&self, p: usize) -> Result<u8, MappingFault> {
@@ -139,13 +178,7 @@ impl Mapping for Interleaved {
         start: usize,
         out: &mut [u8],
     ) -> Result<usize, MappingFault> {
-        let taken = self.stretch(memory.len(), start, out.len())?;
-        let mut walk = Walk::along(self, start);
-        for octet in &mut out[..taken] {
-            *octet = memory[walk.place()];
-            walk.advance();
-        }
-        Ok(taken)
+        self.write_stretch(memory, start, out)
     }
 
     fn store_line(
@@ -154,12 +187,6 @@ impl Mapping for Interleaved {
         start: usize,
         line: &[u8],
     ) -> Result<usize, MappingFault> {
-        let taken = self.stretch(memory.len(), start, line.len())?;
-        let mut walk = Walk::along(self, start);
-        for octet in &line[..taken] {
-            memory[walk.place()] = *octet;
-            walk.advance();
-        }
-        Ok(taken)
+        self.store_stretch(memory, start, line)
     }
 }

@@ -6,8 +6,26 @@ ghost use Rattle.mapping.specs.Meaning.{MappingMeaning, MappingLaws};
 
 use crate::MappingFault;
 
-// How many octets a stretch of a block takes that begins at line place `start` and has room for so many, or its
-// refusal. The octets of a block may be past all numbers of the machine.
+// How many octets a stretch of a block of so many takes that begins at line place `start` and has room for so many, or its
+// refusal.
+pub(crate) fn stretch_of(
+    block: usize,
+    octets: usize,
+    start: usize,
+    room: usize,
+) -> Result<usize, MappingFault>
+    ensures { BlockAnswer block octets start room result }
+{
+    if start >= block {
+        return Err(MappingFault::Place);
+    }
+    if octets != block {
+        return Err(MappingFault::Memory);
+    }
+    Ok(room.min(block - start))
+}
+
+// The same by depth and rows. The octets of a block may be past all numbers of the machine.
 pub(crate) fn stretch(
     depth: usize,
     rows: usize,
@@ -23,13 +41,7 @@ pub(crate) fn stretch(
     else {
         return Err(MappingFault::Memory);
     };
-    if start >= block {
-        return Err(MappingFault::Place);
-    }
-    if octets != block {
-        return Err(MappingFault::Memory);
-    }
-    Ok(room.min(block - start))
+    stretch_of(block, octets, start, room)
 }
 
 // From where each data octet of the line comes. A mapping never changes.

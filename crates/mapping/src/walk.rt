@@ -3,7 +3,7 @@ ghost use Rattle.std.specs.Prelude.{◌≡◌, ℕ, ◌+◌, ◌<◌, ◌≤◌}
 ghost use Rattle.settings.specs.Lengths.{block_length};
 ghost use Rattle.mapping.specs.Interleaver.{step_of};
 
-use crate::Interleaved;
+use crate::{Interleaved, Interleaver};
 
 // A line place: an octet of a symbol of a row. The numbers count octets.
 #[derive(Clone, Copy)]
@@ -41,22 +41,30 @@ impl Walk {
         ensures { At mapping.now.settings (step_of mapping.now.interleaver) p result }
     {
         let settings = &mapping.settings;
-        let step = mapping.interleaver.step();
         let symbol = settings.symbol();
         let rows = settings.rows();
         let row_length = settings.row_length();
         let columns = row_length / symbol;
         let row = p / symbol % rows;
         let round = p / symbol / rows;
+        let first = round % columns * symbol;
+        // The block mapping spends no division on a step: a stretch may be of one octet.
+        let (shift, offset) = match mapping.interleaver {
+            Interleaver::Block => (0, first),
+            Interleaver::Stepped(step) => (
+                step % columns * symbol,
+                (round + row * step) % columns * symbol,
+            ),
+        };
         Walk {
             symbol,
             row_length,
             block: settings.block_length(),
-            shift: step % columns * symbol,
+            shift,
             octet: p % symbol,
             base: row * row_length,
-            first: round % columns * symbol,
-            offset: (round + row * step) % columns * symbol,
+            first,
+            offset,
         }
     }
 

@@ -3,7 +3,7 @@ use Rattle.mapping.specs.Bulk.{line_octet}
 use Rattle.mapping.specs.Interleaver.{interleaved, step_of}
 use Rattle.mapping.specs.Walk.{At}
 use Rattle.mapping.proofs.Stretching.{Filled}
-use Rattle.mapping.proofs.interleaved.InterleavedMapping.write_line.Given as goal
+use Rattle.mapping.proofs.interleaved.Interleaved.write_stretch.Given as goal
 
 abbrev pub invariant-loop-octet : goal.invariant-loop-octet
 invariant-loop-octet l =

@@ -3,7 +3,7 @@ use lib.Bits.{bit_xor}
 use Rattle.mapping.specs.Interleaver.{interleaved, step_of}
 use Rattle.mapping.specs.Walk.{At}
 use Rattle.mapping.proofs.Stretching.{Stored}
-use Rattle.mapping.proofs.interleaved.InterleavedMapping.store_line.Given as goal
+use Rattle.mapping.proofs.interleaved.Interleaved.store_stretch.Given as goal
 
 abbrev pub invariant-loop-octet : goal.invariant-loop-octet
 invariant-loop-octet l =

@@ -5,7 +5,7 @@ use Rattle.mapping.specs.Walk.{At}
 use Rattle.std.proofs.lemmas.List.{get_or-take}
 use Rattle.mapping.specs.Laws.{interleaved_laws}
 use Rattle.mapping.proofs.Stretching.{not_refused, stands, stored_more, stored_all}
-use Rattle.mapping.proofs.interleaved.InterleavedMapping.store_line.Goals as goal
+use Rattle.mapping.proofs.interleaved.Interleaved.store_stretch.Goals as goal
 
 pub bounds-memory-place : goal.bounds-memory-place
 bounds-memory-place c =

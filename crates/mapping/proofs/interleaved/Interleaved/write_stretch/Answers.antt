@@ -5,7 +5,7 @@ use Rattle.mapping.specs.Interleaver.{interleaved, step_of}
 use Rattle.mapping.specs.Walk.{At}
 use Rattle.mapping.specs.Laws.{interleaved_laws}
 use Rattle.mapping.proofs.Stretching.{not_refused, stands, filled_more, written_front}
-use Rattle.mapping.proofs.interleaved.InterleavedMapping.write_line.Goals as goal
+use Rattle.mapping.proofs.interleaved.Interleaved.write_stretch.Goals as goal
 
 pub bounds-memory-place : goal.bounds-memory-place
 bounds-memory-place c =

@@ -4,8 +4,8 @@ use Rattle.std.proofs.lemmas.Bool.{cond_below}
 use Rattle.mapping.specs.Interleaver.{block_source, stepped_source, interleaved_source}
 use Rattle.mapping.specs.Bounds.{cut_of, step_of_high, stepped_column_fits}
 use Rattle.mapping.specs.InterleaverLemmas.{columns_pos, round_lt}
-use Rattle.mapping.proofs.interleaved.InterleavedMapping.source.Goals as goal
-use Rattle.mapping.proofs.interleaved.InterleavedMapping.source.Goals.{in-Block, in-Stepped}
+use Rattle.mapping.proofs.interleaved.Interleaved.source_of.Goals as goal
+use Rattle.mapping.proofs.interleaved.Interleaved.source_of.Goals.{in-Block, in-Stepped}
 
 pub overflow_add-column : goal.overflow_add-column
 overflow_add-column c =
